@@ -1,0 +1,9 @@
+pub mod Refusals
+pub mod Numbers
+pub mod Principal
+pub mod Reading
+pub mod Faults
+pub mod Laws
+pub mod Cursors
+pub mod Kinds
+pub mod Terms

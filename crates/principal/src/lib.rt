@@ -1,0 +1,4 @@
+// Principals: terms read from bytes, and what may go wrong in reading.
+pub mod cursor;
+pub mod refusal;
+pub mod term;
