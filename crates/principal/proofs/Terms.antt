@@ -5,10 +5,11 @@ use Prim.Native.Nat.{ℕ, suc, _+_, _-_, _≤_, _<_}
 use native.Mathlib.Omega.{arith}
 use lib.ListN.{length, getD, take, drop}
 use Rattle.std.proofs.shelf.Lists.{length-append, length-drop, take-at, getD-drop}
+use Rattle.principal.specs.declared.cursor.Row.the-variants.{LeftOver}
 use Rattle.principal.specs.Numbers.{Bytes}
 use Rattle.principal.specs.Principal.{Principal, encode, Fits, Readable}
 use Rattle.principal.specs.Reading.{took, stopped, read-inner, read-term}
-use Rattle.principal.specs.Terms.{taken, principal, Spelled, part}
+use Rattle.principal.specs.Terms.{taken, principal, Spelled, part, ended}
 use Rattle.principal.proofs.Law.{complete}
 use Rattle.principal.proofs.Faults.{terms-are-read}
 
@@ -39,3 +40,18 @@ stands bs bs′ found start end p fits same le on r there =
     omega (arith, ap length (law .0), length-append (encode p) (drop end bs′), length-drop start bs, length-drop end bs′, ap length same) in
     let is : found ≡ encode p = there ∙ ap (λ l. take (end - start) (drop start l)) same ∙ ap (take (end - start)) (law .0) ∙ take-at (encode p) (drop end bs′) (end - start) long in
     (is-spelled p found (law .1) is, reads ∙ ap (λ q. took q (drop end bs′)) (sym (is-principal p found (law .1) is)))
+
+-- the end of an input
+over : {A : Type 0} (x : A) (bs : List ℕ) → 0 < length bs → ended x bs ≡ stopped LeftOver (length bs)
+over x [] h = absurd (omega arith)
+over x (b ∷ bs) h = refl
+
+none : {A : Type 0} (x : A) (bs : List ℕ) → length bs ≡ 0 → ended x bs ≡ took x []
+none x [] h = refl
+none x (b ∷ bs) h = absurd (omega arith)
+
+pub left-over : {A : Type 0} (x : A) (at : ℕ) (bs : List ℕ) → 0 < length bs - at → ended x (drop at bs) ≡ stopped LeftOver (length bs - at)
+left-over x at bs h = over x (drop at bs) (omega (arith, length-drop at bs)) ∙ ap (stopped LeftOver) (length-drop at bs)
+
+pub nothing-left : {A : Type 0} (x : A) (at : ℕ) (bs : List ℕ) → length bs - at ≡ 0 → ended x (drop at bs) ≡ took x []
+nothing-left x at bs h = none x (drop at bs) (length-drop at bs ∙ h)

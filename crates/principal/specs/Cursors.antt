@@ -1,6 +1,6 @@
 -- What a cursor's readers do, by what is left to read.
 use mathlib.Core.Path.{_≡_}
-use mathlib.Core.List.{List}
+use mathlib.Core.List.{List, []}
 use Prim.Native.Nat.{ℕ, _+_, _-_, _<_, _≤_}
 use lib.ListN.{length, drop}
 use denote.Ref.{RefT, now}
@@ -11,8 +11,8 @@ use Rattle.principal.specs.declared.cursor.Cursor.{Cursor}
 use Rattle.principal.specs.declared.term.Term.{Term}
 use Rattle.principal.specs.Numbers.{number}
 use Rattle.principal.specs.Principal.{Principal}
-use Rattle.principal.specs.Reading.{Outcome, took, stopped}
-use Rattle.principal.specs.Terms.{Sound, means, Spelled, principal}
+use Rattle.principal.specs.Reading.{Outcome, took, stopped, then}
+use Rattle.principal.specs.Terms.{Sound, means, Spelled, principal, ended}
 
 -- the whole input
 abbrev pub input : Cursor → List ℕ
@@ -50,6 +50,10 @@ Starts width outcome r after =
 -- the answer is a term that stands for what was read
 abbrev pub Reads-term : Outcome Principal → Result Term Row → Cursor → Type 0
 Reads-term outcome r after = Or-stopped outcome after r (λ t. Sound t × (outcome ≡ took (means t) (rest after)))
+
+-- the same, of a term that is to be the last
+abbrev pub Reads-last-term : Outcome Principal → Result Term Row → Cursor → Type 0
+Reads-last-term outcome r after = Or-stopped (then outcome ended) after r (λ t. Sound t × (then outcome ended ≡ took (means t) []))
 
 -- the same, of an answer that is the term's bytes
 abbrev pub Spells-term : Outcome Principal → Result (RefT (List ℕ)) Row → Cursor → Type 0

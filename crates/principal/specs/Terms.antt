@@ -4,6 +4,7 @@ use mathlib.Core.List.{List, [], _∷_}
 use Prim.Native.Nat.{ℕ, _-_}
 use lib.ListN.{length, take, drop}
 use denote.Ref.{now}
+use Rattle.std.specs.Results.{Cases}
 use Rattle.std.specs.declared.result.Result.{Result}
 use Rattle.std.specs.declared.result.Result.the-variants.{Ok, Err}
 use Rattle.principal.specs.declared.cursor.Row.the-variants.{LeftOver}
@@ -52,3 +53,7 @@ answered input whole (stopped row left) = Err (fault-at input whole row left)
 -- an input that is one term
 abbrev pub read-input : ℕ → List ℕ → Result Principal ReadFault
 read-input input bs = answered input (length bs) (then (read-term bs) ended)
+
+-- the answer is a term that stands for what was expected, or the fault that was
+abbrev pub Answers : Result Principal ReadFault → Result Term ReadFault → Type 0
+Answers expected r = Cases r (λ t. Sound t × (expected ≡ Ok (means t))) (λ fault. expected ≡ Err fault)

@@ -10,7 +10,7 @@ ghost use Rattle.principal.specs.Kinds.{form};
 ghost use Rattle.principal.specs.Numbers.{number, Bytes};
 ghost use Rattle.principal.specs.Terms.{part};
 ghost use Rattle.principal.specs.Refusals.{fault-at};
-ghost use Rattle.principal.specs.Cursors.{rest, left, whole, Reads, Passes, Starts, Reads-term, Spells-term, Forward};
+ghost use Rattle.principal.specs.Cursors.{input as over, rest, left, whole, Reads, Passes, Starts, Reads-term, Reads-last-term, Spells-term, Forward};
 use crate::cursor::Cursor;
 use crate::cursor::Row;
 use crate::refusal::Place;
@@ -70,7 +70,8 @@ fn between<'a>(bytes: &'a [u8], start: usize, end: usize) -> &'a [u8]
 
 impl<'a> Cursor<'a> {
     pub fn new(bytes: &'a [u8]) -> Self
-        ensures { λ r. ⌜ rest r ≡ now (bytes .entry) ⌝ }
+        ensures over { λ r. ⌜ over r ≡ now (bytes .entry) ⌝ }
+        ensures left { λ r. ⌜ rest r ≡ now (bytes .entry) ⌝ }
     {
         Cursor { bytes, at: 0 }
     }
@@ -194,6 +195,16 @@ impl<'a> Cursor<'a> {
             return Err(Row::LeftOver);
         }
         Ok(())
+    }
+
+    // The next term, with nothing after it.
+    pub fn last_term(&mut self) -> Result<Term<'a>, Row>
+        ensures same { λ _. ⌜ now (self .exit) .bytes ≡ now (self .entry) .bytes ⌝ }
+        ensures reads { λ r. ⌜ Reads-last-term (read-term (rest (now (self .entry)))) r (now (self .exit)) ⌝ }
+    {
+        let term = self.term()?;
+        self.end()?;
+        Ok(term)
     }
 
     // The fault that reading this input stops with at the cursor.
