@@ -7,3 +7,4 @@ pub mod Laws
 pub mod Cursors
 pub mod Kinds
 pub mod Terms
+pub mod Shapes

@@ -3,7 +3,7 @@ ghost use Prim.Native.Nat.{_≤_};
 ghost use lib.ListN.{length};
 ghost use denote.Ref.{now};
 
-mod reads;
+pub(crate) mod reads;
 
 // Why an item could not be read.
 #[derive(Clone, Copy, Debug)]

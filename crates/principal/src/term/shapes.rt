@@ -2,9 +2,11 @@
 ghost use mathlib.Core.Path.{_≡_};
 ghost use Prim.Native.Nat.{ℕ, _<_, _≤_};
 ghost use lib.ListN.{length};
-ghost use Rattle.principal.specs.Principal.{encode};
+ghost use Rattle.principal.specs.Principal.{encode, as-role};
 ghost use Rattle.principal.specs.Terms.{Sound, means, read-input, Answers};
+ghost use Rattle.principal.specs.Shapes.{kind, Has-number, Of-number, Has-two-terms, Of-two-terms, Inside};
 use crate::cursor::Cursor;
+use crate::cursor::reads::word_at;
 use crate::refusal::ReadFault;
 use crate::term::Term;
 
@@ -25,5 +27,56 @@ impl<'a> Term<'a> {
         ensures { λ r. ⌜ now r ≡ encode (means (self .entry)) ⌝ }
     {
         self.bytes
+    }
+
+    fn kind(self) -> u8
+        requires { ⌜ Sound self ⌝ }
+        ensures is { λ r. ⌜ r ≡ kind (means (self .entry)) ⌝ }
+        ensures known { λ r. ⌜ (1 ≤ r) × (r ≤ 6) ⌝ }
+    {
+        self.bytes[0]
+    }
+
+    // The number of a channel or a name.
+    fn number(self) -> u32
+        requires { ⌜ Sound self ⌝ ∗ ⌜ Has-number (kind (means self)) ⌝ }
+        ensures { λ r. ⌜ Of-number (means (self .entry)) r ⌝ }
+    {
+        word_at(self.bytes, 1)
+    }
+
+    // The two terms inside.
+    fn two_terms(self) -> (Term<'a>, Term<'a>)
+        requires { ⌜ Sound self ⌝ ∗ ⌜ Has-two-terms (kind (means self)) ⌝ }
+        ensures of { λ r. ⌜ Of-two-terms (means (self .entry)) (means (r .0)) (means (r .1)) ⌝ }
+        ensures first { λ r. ⌜ Inside (self .entry) (r .0) ⌝ }
+        ensures second { λ r. ⌜ Inside (self .entry) (r .1) ⌝ }
+    {
+        let (_, parts) = self.bytes.split_at(1);
+        let mut cursor = Cursor::new(parts);
+        let Ok(x) = cursor.term() else {
+            unreachable()
+        };
+        let Ok(y) = cursor.term() else {
+            unreachable()
+        };
+        (x, y)
+    }
+
+    // The term inside, and the role that follows it.
+    fn term_and_number(self) -> (Term<'a>, u32)
+        requires { ⌜ Sound self ⌝ ∗ ⌜ kind (means self) ≡ 5 ⌝ }
+        ensures of { λ r. ⌜ means (self .entry) ≡ as-role (means (r .0)) (r .1) ⌝ }
+        ensures first { λ r. ⌜ Inside (self .entry) (r .0) ⌝ }
+    {
+        let (_, parts) = self.bytes.split_at(1);
+        let mut cursor = Cursor::new(parts);
+        let Ok(x) = cursor.term() else {
+            unreachable()
+        };
+        let Ok(role) = cursor.word() else {
+            unreachable()
+        };
+        (x, role)
     }
 }
