@@ -5,3 +5,4 @@ pub mod Law
 pub mod Faults
 pub mod Cursors
 pub mod Terms
+pub mod Voices

@@ -7,11 +7,13 @@ use lib.ListN.{length, getD, take, drop}
 use Rattle.std.proofs.shelf.Lists.{length-append, length-drop, take-at, getD-drop}
 use Rattle.principal.specs.declared.cursor.Row.{Row}
 use Rattle.principal.specs.declared.cursor.Row.the-variants.{LeftOver}
-use Rattle.principal.specs.Numbers.{spelled, Bytes}
+use Rattle.principal.specs.Numbers.{spelled, number, Bytes}
 use Rattle.principal.specs.Principal.{Principal, channel, name, both, quoting, as-role, acting-for, encode, Fits, Readable}
-use Rattle.principal.specs.Reading.{Outcome, took, stopped, read-inner, read-term}
+use Rattle.principal.specs.Reading.{Outcome, took, stopped, read-number, read-inner, read-term}
+use Rattle.principal.specs.Laws.{Terms-are-told-apart}
 use Rattle.principal.specs.Terms.{taken, principal, Spelled, part, ended}
 use Rattle.principal.specs.Shapes.{kind, Has-number, Of-number, Has-two-terms, Of-two-terms, Of-term-and-number}
+use Rattle.principal.proofs.Numbers.{number-spelled}
 use Rattle.principal.proofs.Law.{complete}
 use Rattle.principal.proofs.Faults.{terms-are-read}
 
@@ -144,3 +146,12 @@ never-both o x m row left e f = let z : _≡_ {A = ℕ} 0 1 = cc in omega arith
 -- a term is as long as its principal's
 pub as-long : (t : List ℕ) (p : Principal) → Spelled t → principal t ≡ p → length t ≡ length (encode p)
 as-long t p s e = ap length (s .bytes ∙ ap encode e)
+
+-- a number that is the last
+pub number-is : (n : ℕ) (bs : List ℕ) → n < 2 ^ 32 → bs ≡ spelled 4 n → read-number 4 bs ≡ took n []
+number-is n bs h e = ap (read-number 4) e ∙ ap (λ m. took m []) (ap (number 4) (sym (append-nil (spelled 4 n))) ∙ number-spelled 4 n [] h)
+
+-- with no bound on its length a term is read all the same
+pub told-apart : Terms-are-told-apart
+told-apart p q m n f g e =
+    one-outcome (read-inner 0 (encode p ++ m)) p q m n (complete p 0 m f (omega arith)) (ap (read-inner 0) e ∙ complete q 0 n g (omega arith))

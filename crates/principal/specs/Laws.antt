@@ -4,7 +4,7 @@ use mathlib.Core.List.{List, _++_}
 use Prim.Native.Nat.{ℕ}
 use Rattle.principal.specs.declared.cursor.Row.{Row}
 use Rattle.principal.specs.Numbers.{Bytes}
-use Rattle.principal.specs.Principal.{Principal, encode, Readable}
+use Rattle.principal.specs.Principal.{Principal, encode, Fits, Readable}
 use Rattle.principal.specs.Reading.{took, stopped, read-term}
 use Rattle.principal.specs.Faults.{Stops}
 
@@ -19,3 +19,7 @@ abbrev pub Rows-are-exact : Type 0
 Rows-are-exact =
     (bs : List ℕ) → Bytes bs → (row : Row) (left : ℕ) →
     (read-term bs ≡ stopped row left → Stops 0 bs row left) × (Stops 0 bs row left → read-term bs ≡ stopped row left)
+
+-- no term begins another, and different principals have different terms
+abbrev pub Terms-are-told-apart : Type 0
+Terms-are-told-apart = (p q : Principal) (m n : List ℕ) → Fits p → Fits q → encode p ++ m ≡ encode q ++ n → (p ≡ q) × (m ≡ n)

@@ -8,3 +8,4 @@ pub mod Cursors
 pub mod Kinds
 pub mod Terms
 pub mod Shapes
+pub mod Voices

@@ -4,11 +4,20 @@ ghost use Prim.Native.Nat.{ℕ, _<_, _≤_};
 ghost use lib.ListN.{length};
 ghost use Rattle.principal.specs.Principal.{encode, as-role};
 ghost use Rattle.principal.specs.Terms.{Sound, means, read-input, Answers};
-ghost use Rattle.principal.specs.Shapes.{kind, Has-number, Of-number, Has-two-terms, Of-two-terms, Inside};
+ghost use Rattle.principal.specs.Shapes.{kind, Has-number, Of-number, Has-two-terms, Of-two-terms, Inside, shown, Parts-inside};
+ghost use Rattle.principal.specs.Voices.{Voiced, has-voice};
+ghost use Rattle.std.specs.Orderings.{Decides};
 use crate::cursor::Cursor;
 use crate::cursor::reads::word_at;
 use crate::refusal::ReadFault;
+use crate::term::Shape;
 use crate::term::Term;
+
+fn equal(a: &[u8], b: &[u8]) -> bool
+    ensures { λ r. ⌜ Decides r (now (a .entry) ≡ now (b .entry)) ⌝ }
+{
+    a == b
+}
 
 impl<'a> Term<'a> {
     // An input, by its number, that is one term.
@@ -78,5 +87,62 @@ impl<'a> Term<'a> {
             unreachable()
         };
         (x, role)
+    }
+
+    // The outermost kind and its parts.
+    pub fn shape(self) -> Shape<'a>
+        requires { ⌜ Sound self ⌝ }
+        ensures is { λ r. ⌜ shown r ≡ means (self .entry) ⌝ }
+        ensures inside { λ r. ⌜ Parts-inside (self .entry) r ⌝ }
+    {
+        match self.kind() {
+            1 => Shape::Channel(self.number()),
+            2 => Shape::Name(self.number()),
+            3 => {
+                let (x, y) = self.two_terms();
+                Shape::Both(x, y)
+            }
+            4 => {
+                let (x, y) = self.two_terms();
+                Shape::Quoting(x, y)
+            }
+            5 => {
+                let (x, role) = self.term_and_number();
+                Shape::AsRole(x, role)
+            }
+            6 => {
+                let (x, y) = self.two_terms();
+                Shape::ActingFor(x, y)
+            }
+            _ => unreachable(),
+        }
+    }
+
+    // Both stand for the same principal.
+    pub fn same(self, other: Term) -> bool
+        requires { ⌜ Sound self ⌝ ∗ ⌜ Sound other ⌝ }
+        ensures { λ r. ⌜ Decides r (means (self .entry) ≡ means (other .entry)) ⌝ }
+    {
+        equal(self.bytes, other.bytes)
+    }
+
+    fn has_voice(self, channel: u32) -> bool
+        requires { ⌜ Sound self ⌝ }
+        ensures { λ r. ⌜ r ≡ has-voice channel (means (self .entry)) ⌝ }
+    {
+        match self.shape() {
+            Shape::Channel(number) => number == channel,
+            Shape::Quoting(x, _) => x.has_voice(channel),
+            Shape::AsRole(x, _) => x.has_voice(channel),
+            _ => false,
+        }
+    }
+
+    // The term speaks with the channel's own voice: it is the channel, or quotes or takes a role in that voice.
+    pub fn voiced_by(self, channel: u32) -> bool
+        requires { ⌜ Sound self ⌝ }
+        ensures { λ r. ⌜ Decides r (Voiced channel (means (self .entry))) ⌝ }
+    {
+        self.has_voice(channel)
     }
 }
