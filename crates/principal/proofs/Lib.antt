@@ -1,8 +1,2 @@
-pub mod Numbers
-pub mod Outcomes
-pub mod Steps
-pub mod Law
-pub mod Faults
-pub mod Cursors
-pub mod Terms
+pub mod Shapes
 pub mod Voices

@@ -5,7 +5,7 @@ use Prim.Native.Nat.{ℕ}
 use lib.Dec.{eqb}
 use borrow.Author.Tests.{eqb-true, eq-eqb}
 use Rattle.std.proofs.shelf.Tests.{false≢true}
-use Rattle.principal.specs.Principal.{Principal, channel, name, both, quoting, as-role, acting-for}
+use Rattle.reading.specs.Principal.{Principal, channel, name, both, quoting, as-role, acting-for}
 use Rattle.principal.specs.Voices.{Voiced, itself, quotes, in-role, has-voice}
 
 pub voice-means : (k : ℕ) (p : Principal) → has-voice k p ≡ true → Voiced k p

@@ -1,11 +1,3 @@
-pub mod Refusals
-pub mod Numbers
-pub mod Principal
-pub mod Reading
-pub mod Faults
-pub mod Laws
-pub mod Cursors
-pub mod Kinds
 pub mod Terms
 pub mod Shapes
 pub mod Voices

@@ -7,7 +7,7 @@ use denote.Ref.{now}
 use Rattle.principal.specs.declared.term.Term.{Term}
 use Rattle.principal.specs.declared.term.Shape.{Shape}
 use Rattle.principal.specs.declared.term.Shape.the-variants.{Channel, Name, Both, Quoting, AsRole, ActingFor}
-use Rattle.principal.specs.Principal.{Principal, channel, name, both, quoting, as-role, acting-for}
+use Rattle.reading.specs.Principal.{Principal, channel, name, both, quoting, as-role, acting-for}
 use Rattle.principal.specs.Terms.{Sound, means}
 
 abbrev pub kind : Principal → ℕ

@@ -1,56 +1,39 @@
--- Terms: parts of an input that were read, and the principals that they stand for.
+-- Terms that were read, and the principals that they stand for.
 use mathlib.Core.Path.{_≡_}
-use mathlib.Core.List.{List, [], _∷_}
-use Prim.Native.Nat.{ℕ, _-_}
-use lib.ListN.{length, take, drop}
+use mathlib.Core.List.{List, []}
+use Prim.Native.Nat.{ℕ}
+use lib.ListN.{length}
 use denote.Ref.{now}
 use Rattle.std.specs.Results.{Cases}
 use Rattle.std.specs.declared.result.Result.{Result}
 use Rattle.std.specs.declared.result.Result.the-variants.{Ok, Err}
-use Rattle.principal.specs.declared.cursor.Row.the-variants.{LeftOver}
-use Rattle.principal.specs.declared.refusal.ReadFault.{ReadFault}
+use Rattle.reading.specs.declared.cursor.Cursor.{Cursor}
+use Rattle.reading.specs.declared.cursor.Row.{Row}
+use Rattle.reading.specs.declared.refusal.ReadFault.{ReadFault}
+use Rattle.reading.specs.Principal.{Principal}
+use Rattle.reading.specs.Reading.{Outcome, took, then, ended, read-term}
+use Rattle.reading.specs.Refusals.{answered}
+use Rattle.reading.specs.Terms.{principal, Spelled}
+use Rattle.reading.specs.Cursors.{rest, Or-stopped}
 use Rattle.principal.specs.declared.term.Term.{Term}
-use Rattle.principal.specs.Principal.{Principal, channel, encode, Readable}
-use Rattle.principal.specs.Refusals.{fault-at}
-use Rattle.principal.specs.Reading.{Outcome, took, stopped, then, read-term}
-
--- what was read, whatever follows it
-abbrev pub taken : Outcome Principal → Principal
-taken (took p rest) = p
-taken (stopped row left) = channel 0
-
--- the principal whose term the bytes are
-unfoldable pub principal : List ℕ → Principal
-principal bs = taken (read-term bs)
 
 -- the principal that a term stands for
 abbrev pub means : Term → Principal
 means t = principal (now (t .bytes))
 
--- the bytes are a term that reading takes
-pub record Spelled (bs : List ℕ) : Type 0 where
-  pub bytes : bs ≡ encode (principal bs)
-  pub readable : Readable (principal bs)
-
 -- a term that was read
 abbrev pub Sound : Term → Type 0
 Sound t = Spelled (now (t .bytes))
 
--- the part of the bytes from `start` up to `end`
-abbrev pub part : List ℕ → ℕ → ℕ → List ℕ
-part bs start end = take (end - start) (drop start bs)
+-- the answer is a term that stands for what was read, and the cursor went past it
+abbrev pub Reads-term : Outcome Principal → Result Term Row → Cursor → Type 0
+Reads-term outcome r after = Or-stopped outcome after r (λ t. Sound t × (outcome ≡ took (means t) (rest after)))
 
--- nothing follows what was read
-abbrev pub ended : {A : Type 0} → A → List ℕ → Outcome A
-ended x [] = took x []
-ended x (b ∷ bs) = stopped LeftOver (length (b ∷ bs))
+-- the same, of a term that is to be the last
+abbrev pub Reads-last-term : Outcome Principal → Result Term Row → Cursor → Type 0
+Reads-last-term outcome r after = Or-stopped (then outcome ended) after r (λ t. Sound t × (then outcome ended ≡ took (means t) []))
 
--- what an input of so many bytes is read as, by its number
-abbrev pub answered : {A : Type 0} → ℕ → ℕ → Outcome A → Result A ReadFault
-answered input whole (took x rest) = Ok x
-answered input whole (stopped row left) = Err (fault-at input whole row left)
-
--- an input that is one term
+-- an input, by its number, that is one term
 abbrev pub read-input : ℕ → List ℕ → Result Principal ReadFault
 read-input input bs = answered input (length bs) (then (read-term bs) ended)
 

@@ -2,7 +2,7 @@
 use mathlib.Core.Bool.{Bool, false}
 use Prim.Native.Nat.{ℕ}
 use lib.Dec.{eqb}
-use Rattle.principal.specs.Principal.{Principal, channel, name, both, quoting, as-role, acting-for}
+use Rattle.reading.specs.Principal.{Principal, channel, name, both, quoting, as-role, acting-for}
 
 -- the channel itself, and what quotes or takes a role in its voice
 pub data Voiced (k : ℕ) : Principal → Type 0 where

@@ -1,5 +1,2 @@
-// Principals: terms read from bytes, and what may go wrong in reading.
-pub mod cursor;
-pub mod laws;
-pub mod refusal;
+// Principals: terms that were read, what they are made of, and whose voice they have.
 pub mod term;

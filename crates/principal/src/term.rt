@@ -4,7 +4,7 @@ mod shapes;
 // Only reading makes one.
 #[derive(Clone, Copy)]
 pub struct Term<'a> {
-    pub(crate) bytes: &'a [u8],
+    bytes: &'a [u8],
 }
 
 // A term by its outermost kind and parts.

@@ -2,16 +2,19 @@
 ghost use mathlib.Core.Path.{_≡_};
 ghost use Prim.Native.Nat.{ℕ, _<_, _≤_};
 ghost use lib.ListN.{length};
-ghost use Rattle.principal.specs.Principal.{encode, as-role};
-ghost use Rattle.principal.specs.Terms.{Sound, means, read-input, Answers};
+ghost use Rattle.std.specs.Orderings.{Decides};
+ghost use Rattle.reading.specs.Principal.{encode, as-role};
+ghost use Rattle.reading.specs.Reading.{read-term};
+ghost use Rattle.reading.specs.Cursors.{over, rest};
+ghost use Rattle.principal.specs.Terms.{Sound, means, Reads-term, Reads-last-term, read-input, Answers};
 ghost use Rattle.principal.specs.Shapes.{kind, Has-number, Of-number, Has-two-terms, Of-two-terms, Inside, shown, Parts-inside};
 ghost use Rattle.principal.specs.Voices.{Voiced, has-voice};
-ghost use Rattle.std.specs.Orderings.{Decides};
-use crate::cursor::Cursor;
-use crate::cursor::reads::word_at;
-use crate::refusal::ReadFault;
 use crate::term::Shape;
 use crate::term::Term;
+use reading::cursor::Cursor;
+use reading::cursor::Row;
+use reading::cursor::word_at;
+use reading::refusal::ReadFault;
 
 fn equal(a: &[u8], b: &[u8]) -> bool
     ensures { λ r. ⌜ Decides r (now (a .entry) ≡ now (b .entry)) ⌝ }
@@ -20,12 +23,31 @@ fn equal(a: &[u8], b: &[u8]) -> bool
 }
 
 impl<'a> Term<'a> {
+    // The term at the cursor.
+    pub fn next(cursor: &mut Cursor<'a>) -> Result<Term<'a>, Row>
+        ensures same { λ _. ⌜ over (now (cursor .exit)) ≡ over (now (cursor .entry)) ⌝ }
+        ensures reads { λ r. ⌜ Reads-term (read-term (rest (now (cursor .entry)))) r (now (cursor .exit)) ⌝ }
+    {
+        let bytes = cursor.term()?;
+        Ok(Term { bytes })
+    }
+
+    // The term at the cursor, with nothing after it.
+    pub fn last(cursor: &mut Cursor<'a>) -> Result<Term<'a>, Row>
+        ensures same { λ _. ⌜ over (now (cursor .exit)) ≡ over (now (cursor .entry)) ⌝ }
+        ensures reads { λ r. ⌜ Reads-last-term (read-term (rest (now (cursor .entry)))) r (now (cursor .exit)) ⌝ }
+    {
+        let term = Term::next(cursor)?;
+        cursor.end()?;
+        Ok(term)
+    }
+
     // An input, by its number, that is one term.
     pub fn read(input: u32, bytes: &'a [u8]) -> Result<Term<'a>, ReadFault>
         ensures { λ r. ⌜ Answers (read-input input (now (bytes .entry))) r ⌝ }
     {
         let mut cursor = Cursor::new(bytes);
-        match cursor.last_term() {
+        match Term::last(&mut cursor) {
             Ok(term) => Ok(term),
             Err(row) => Err(cursor.fault(input, row)),
         }
@@ -63,10 +85,10 @@ impl<'a> Term<'a> {
     {
         let (_, parts) = self.bytes.split_at(1);
         let mut cursor = Cursor::new(parts);
-        let Ok(x) = cursor.term() else {
+        let Ok(x) = Term::next(&mut cursor) else {
             unreachable()
         };
-        let Ok(y) = cursor.term() else {
+        let Ok(y) = Term::next(&mut cursor) else {
             unreachable()
         };
         (x, y)
@@ -80,7 +102,7 @@ impl<'a> Term<'a> {
     {
         let (_, parts) = self.bytes.split_at(1);
         let mut cursor = Cursor::new(parts);
-        let Ok(x) = cursor.term() else {
+        let Ok(x) = Term::next(&mut cursor) else {
             unreachable()
         };
         let Ok(role) = cursor.word() else {

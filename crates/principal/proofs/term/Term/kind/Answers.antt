@@ -1,7 +1,7 @@
 use mathlib.Core.Path.{_≡_}
 use native.Mathlib.Omega.{arith}
 use Rattle.principal.specs.Terms.{means}
-use Rattle.principal.proofs.Terms.{kind-byte, kinds}
+use Rattle.principal.proofs.Shapes.{kind-byte, kinds}
 use Rattle.principal.proofs.term.Term.kind.Needs as need
 
 pub index-self-0 : need.index-self-0

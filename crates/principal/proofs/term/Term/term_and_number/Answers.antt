@@ -1,10 +1,11 @@
 use mathlib.Core.Path.{_≡_, sym, ap, _∙_}
 use Prim.Native.Nat.{_<_}
 use native.Mathlib.Omega.{arith}
-use Rattle.principal.specs.Numbers.{spelled}
-use Rattle.principal.specs.Principal.{as-role}
+use Rattle.reading.specs.Numbers.{spelled}
+use Rattle.reading.specs.Principal.{as-role}
 use Rattle.principal.specs.Terms.{means}
-use Rattle.principal.proofs.Terms.{front-is, number-is, role-of, one-outcome, never-both, as-long}
+use Rattle.reading.proofs.Terms.{front-is, number-is, one-outcome, never-both, as-long}
+use Rattle.principal.proofs.Shapes.{role-of}
 use Rattle.principal.proofs.term.Term.term_and_number.Needs as need
 
 pub unreachable-requires : need.unreachable-requires

@@ -1,5 +1,0 @@
-use Rattle.principal.proofs.Numbers.{one-byte}
-use Rattle.principal.proofs.cursor.reads.byte_at.Needs as need
-
-pub returns : need.returns
-returns c = one-byte (c .args .at) (c .args .bytes .now)

@@ -1,0 +1,9 @@
+pub mod Numbers
+pub mod Principal
+pub mod Reading
+pub mod Faults
+pub mod Laws
+pub mod Terms
+pub mod Refusals
+pub mod Kinds
+pub mod Cursors
