@@ -49,7 +49,7 @@ impl<'a> Term<'a> {
         let mut cursor = Cursor::new(bytes);
         match Term::last(&mut cursor) {
             Ok(term) => Ok(term),
-            Err(row) => Err(cursor.fault(input, row)),
+            Err(row) => Err(row.fault(input, bytes.len(), cursor.left())),
         }
     }
 

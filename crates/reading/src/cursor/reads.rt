@@ -10,7 +10,7 @@ ghost use Rattle.reading.specs.Kinds.{form};
 ghost use Rattle.reading.specs.Numbers.{number, Bytes};
 ghost use Rattle.reading.specs.Terms.{part};
 ghost use Rattle.reading.specs.Refusals.{fault-at};
-ghost use Rattle.reading.specs.Cursors.{over, rest, left, whole, Reads, Passes, Starts, Spells-term, Forward};
+ghost use Rattle.reading.specs.Cursors.{over, rest, left as unread, whole as span, Reads, Passes, Starts, Spells-term, Forward};
 use crate::cursor::Cursor;
 use crate::cursor::Row;
 use crate::refusal::Place;
@@ -78,7 +78,7 @@ impl<'a> Cursor<'a> {
     // Whether an item of `size` bytes can be read, in the term that starts at `start`.
     fn item(&self, start: usize, size: usize) -> Result<(), Row>
         requires { ⌜ start ≤ now self .at ⌝ ∗ ⌜ size ≤ 60 ⌝ }
-        ensures { λ r. ⌜ Cases r (λ _. (barred size (whole (now (self .entry)) start) (left (now (self .entry))) ≡ None) × (now (self .entry) .at + size ≤ length (now (now (self .entry) .bytes)))) (λ row. barred size (whole (now (self .entry)) start) (left (now (self .entry))) ≡ Some row) ⌝ }
+        ensures { λ r. ⌜ Cases r (λ _. (barred size (span (now (self .entry)) start) (unread (now (self .entry))) ≡ None) × (now (self .entry) .at + size ≤ length (now (now (self .entry) .bytes)))) (λ row. barred size (span (now (self .entry)) start) (unread (now (self .entry))) ≡ Some row) ⌝ }
     {
         if self.at - start > 60 - size {
             return Err(Row::TooLong);
@@ -93,7 +93,7 @@ impl<'a> Cursor<'a> {
         requires { ⌜ start ≤ now self .at ⌝ }
         ensures same { λ _. ⌜ over (now (self .exit)) ≡ over (now (self .entry)) ⌝ }
         ensures on { λ r. ⌜ Forward (now (self .entry)) (now (self .exit)) r ⌝ }
-        ensures reads { λ r. ⌜ Passes (inner-number (whole (now (self .entry)) start) (rest (now (self .entry)))) r (now (self .exit)) ⌝ }
+        ensures reads { λ r. ⌜ Passes (inner-number (span (now (self .entry)) start) (rest (now (self .entry)))) r (now (self .exit)) ⌝ }
     {
         self.item(start, 4)?;
         self.at += 4;
@@ -105,7 +105,7 @@ impl<'a> Cursor<'a> {
         requires { ⌜ start ≤ now self .at ⌝ }
         ensures same { λ _. ⌜ over (now (self .exit)) ≡ over (now (self .entry)) ⌝ }
         ensures on { λ r. ⌜ Forward (now (self .entry)) (now (self .exit)) r ⌝ }
-        ensures reads { λ r. ⌜ Passes (read-inner (whole (now (self .entry)) start) (rest (now (self .entry)))) r (now (self .exit)) ⌝ }
+        ensures reads { λ r. ⌜ Passes (read-inner (span (now (self .entry)) start) (rest (now (self .entry)))) r (now (self .exit)) ⌝ }
     {
         self.item(start, 1)?;
         match after_kind(self.bytes[self.at]) {
@@ -179,7 +179,7 @@ impl<'a> Cursor<'a> {
 
     // Nothing is left to read.
     pub fn end(&self) -> Result<(), Row>
-        ensures { λ r. ⌜ Cases r (λ _. left (now (self .entry)) ≡ 0) (λ row. (row ≡ Row.LeftOver) × (0 < left (now (self .entry)))) ⌝ }
+        ensures { λ r. ⌜ Cases r (λ _. unread (now (self .entry)) ≡ 0) (λ row. (row ≡ Row.LeftOver) × (0 < unread (now (self .entry)))) ⌝ }
     {
         if self.at < self.bytes.len() {
             return Err(Row::LeftOver);
@@ -187,16 +187,25 @@ impl<'a> Cursor<'a> {
         Ok(())
     }
 
-    // The fault that reading this input stops with at the cursor.
-    pub fn fault(&self, input: u32, row: Row) -> ReadFault
-        ensures { λ r. ⌜ r ≡ fault-at input (length (now (now (self .entry) .bytes))) row (left (now (self .entry))) ⌝ }
+    // How many bytes are left to read.
+    pub fn left(&self) -> usize
+        ensures { λ r. ⌜ r ≡ unread (now (self .entry)) ⌝ }
+    {
+        self.bytes.len() - self.at
+    }
+}
+
+impl Row {
+    // The fault of an input of `whole` bytes that was not read by this row, with so many bytes left.
+    pub fn fault(self, input: u32, whole: usize, left: usize) -> ReadFault
+        ensures { λ r. ⌜ r ≡ fault-at input whole self left ⌝ }
     {
         let place = Place {
             input,
-            start: self.at,
-            len: self.bytes.len() - self.at,
+            start: whole.saturating_sub(left),
+            len: left,
         };
-        match row {
+        match self {
             Row::CutShort => ReadFault::CutShort(place),
             Row::UnknownKind => ReadFault::UnknownKind(place),
             Row::TooLong => ReadFault::TooLong(place),
