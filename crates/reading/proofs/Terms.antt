@@ -12,7 +12,7 @@ use Rattle.reading.specs.Numbers.{spelled, number, Bytes}
 use Rattle.reading.specs.Principal.{Principal, encode, Readable}
 use Rattle.reading.specs.Reading.{Outcome, took, stopped, read-number, read-inner, read-term, ended}
 use Rattle.reading.specs.declared.cursor.Cursor.{Cursor}
-use Rattle.reading.specs.Cursors.{rest, left}
+use Rattle.reading.specs.Cursors.{rest, unread}
 use Rattle.reading.specs.Laws.{Terms-are-told-apart}
 use Rattle.reading.specs.Terms.{taken, principal, Spelled, part}
 use Rattle.reading.proofs.Numbers.{number-spelled}
@@ -56,10 +56,10 @@ none : {A : Type 0} (x : A) (bs : List ℕ) → length bs ≡ 0 → ended x bs �
 none x [] h = refl
 none x (b ∷ bs) h = absurd (omega arith)
 
-pub left-over : {A : Type 0} (x : A) (c : Cursor) → 0 < left c → ended x (rest c) ≡ stopped LeftOver (left c)
+pub left-over : {A : Type 0} (x : A) (c : Cursor) → 0 < unread c → ended x (rest c) ≡ stopped LeftOver (unread c)
 left-over x c h = over x (rest c) (omega (arith, length-drop (c .at) (now (c .bytes)))) ∙ ap (stopped LeftOver) (length-drop (c .at) (now (c .bytes)))
 
-pub nothing-left : {A : Type 0} (x : A) (c : Cursor) → left c ≡ 0 → ended x (rest c) ≡ took x []
+pub nothing-left : {A : Type 0} (x : A) (c : Cursor) → unread c ≡ 0 → ended x (rest c) ≡ took x []
 nothing-left x c h = none x (rest c) (length-drop (c .at) (now (c .bytes)) ∙ h)
 
 -- a readable term at the front is read

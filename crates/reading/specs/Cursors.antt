@@ -22,16 +22,16 @@ abbrev pub rest : Cursor → List ℕ
 rest c = drop (c .at) (now (c .bytes))
 
 -- and how many bytes that is
-abbrev pub left : Cursor → ℕ
-left c = length (now (c .bytes)) - c .at
+abbrev pub unread : Cursor → ℕ
+unread c = length (now (c .bytes)) - c .at
 
 -- how many bytes there are from `start` on
-abbrev pub whole : Cursor → ℕ → ℕ
-whole c start = length (now (c .bytes)) - start
+abbrev pub span : Cursor → ℕ → ℕ
+span c start = length (now (c .bytes)) - start
 
 -- P holds of the answer; or the answer is the row, and the cursor is at the item that failed
 abbrev pub Or-stopped : {A B : Type 0} → Outcome A → Cursor → Result B Row → (B → Type 0) → Type 0
-Or-stopped outcome after r P = Cases r P (λ row. outcome ≡ stopped row (left after))
+Or-stopped outcome after r P = Cases r P (λ row. outcome ≡ stopped row (unread after))
 
 -- the answer is what was read, and the cursor went past it
 abbrev pub Reads : {A : Type 0} → Outcome A → Result A Row → Cursor → Type 0

@@ -10,7 +10,7 @@ ghost use Rattle.reading.specs.Kinds.{form};
 ghost use Rattle.reading.specs.Numbers.{number, Bytes};
 ghost use Rattle.reading.specs.Terms.{part};
 ghost use Rattle.reading.specs.Refusals.{fault-at};
-ghost use Rattle.reading.specs.Cursors.{over, rest, left as unread, whole as span, Reads, Passes, Starts, Spells-term, Forward};
+ghost use Rattle.reading.specs.Cursors.{over, rest, unread, span, Reads, Passes, Starts, Spells-term, Forward};
 use crate::cursor::Cursor;
 use crate::cursor::Row;
 use crate::refusal::Place;

@@ -5,7 +5,7 @@ use lib.ListN.{length, drop}
 use denote.Ref.{now}
 use Rattle.std.proofs.shelf.Results.{err-from-errBy}
 use Rattle.reading.specs.Reading.{inner-number, read-inner}
-use Rattle.reading.specs.Cursors.{Passes, rest, whole}
+use Rattle.reading.specs.Cursors.{Passes, rest}
 use Rattle.reading.proofs.Cursors.{at-kind, kind-stopped, unknown, number-case, pair-stopped, pair-case, role-stopped, role-case, forward}
 use Rattle.reading.proofs.cursor.Cursor.+inner_term.Needs as need
 
