@@ -1,6 +1,6 @@
 -- Terms that were read, and the principals that they stand for.
 use mathlib.Core.Path.{_≡_}
-use mathlib.Core.List.{List, []}
+use mathlib.Core.List.{List}
 use Prim.Native.Nat.{ℕ}
 use lib.ListN.{length}
 use denote.Ref.{now}
@@ -11,7 +11,7 @@ use Rattle.reading.specs.declared.cursor.Cursor.{Cursor}
 use Rattle.reading.specs.declared.cursor.Row.{Row}
 use Rattle.reading.specs.declared.refusal.ReadFault.{ReadFault}
 use Rattle.reading.specs.Principal.{Principal}
-use Rattle.reading.specs.Reading.{Outcome, took, then, ended, read-term}
+use Rattle.reading.specs.Reading.{Outcome, took, alone, read-term}
 use Rattle.reading.specs.Refusals.{answered}
 use Rattle.reading.specs.Terms.{principal, Spelled}
 use Rattle.reading.specs.Cursors.{rest, Or-stopped}
@@ -29,13 +29,9 @@ Sound t = Spelled (now (t .bytes))
 abbrev pub Reads-term : Outcome Principal → Result Term Row → Cursor → Type 0
 Reads-term outcome r after = Or-stopped outcome after r (λ t. Sound t × (outcome ≡ took (means t) (rest after)))
 
--- the same, of a term that is to be the last
-abbrev pub Reads-last-term : Outcome Principal → Result Term Row → Cursor → Type 0
-Reads-last-term outcome r after = Or-stopped (then outcome ended) after r (λ t. Sound t × (then outcome ended ≡ took (means t) []))
-
 -- an input, by its number, that is one term
 abbrev pub read-input : ℕ → List ℕ → Result Principal ReadFault
-read-input input bs = answered input (length bs) (then (read-term bs) ended)
+read-input input bs = answered input (length bs) (alone (read-term bs))
 
 -- the answer is a term that stands for what was expected, or the fault that was
 abbrev pub Answers : Result Principal ReadFault → Result Term ReadFault → Type 0

@@ -3,16 +3,19 @@ use mathlib.Core.Path.{_≡_, refl, sym, ap, subst, _∙_}
 use mathlib.Core.List.{List, [], _∷_, _++_, append-nil}
 use Prim.Native.Nat.{ℕ, suc, _+_, _-_, _^_, _≤_, _<_}
 use native.Mathlib.Omega.{arith}
-use lib.ListN.{length, getD, take, drop}
+use mathlib.Core.Bool.{Bool, true, false}
+use lib.Dec.{leb}
 use denote.Ref.{now}
+use borrow.Author.Tests.{leb-true, leb-false}
+use lib.ListN.{length, getD, take, drop}
 use Rattle.std.proofs.shelf.Lists.{length-append, length-drop, take-at, getD-drop}
 use Rattle.reading.specs.declared.cursor.Row.{Row}
 use Rattle.reading.specs.declared.cursor.Row.the-variants.{LeftOver}
+use Rattle.reading.specs.declared.cursor.Cursor.{Cursor}
+use Rattle.reading.specs.Cursors.{Tells-end}
 use Rattle.reading.specs.Numbers.{spelled, number, Bytes}
 use Rattle.reading.specs.Principal.{Principal, encode, Readable}
-use Rattle.reading.specs.Reading.{Outcome, took, stopped, read-number, read-inner, read-term, ended}
-use Rattle.reading.specs.declared.cursor.Cursor.{Cursor}
-use Rattle.reading.specs.Cursors.{rest, unread}
+use Rattle.reading.specs.Reading.{Outcome, took, stopped, read-number, read-inner, read-term, at-end}
 use Rattle.reading.specs.Laws.{Terms-are-told-apart}
 use Rattle.reading.specs.Terms.{taken, principal, Spelled, part}
 use Rattle.reading.proofs.Numbers.{number-spelled}
@@ -48,19 +51,26 @@ stands bs bs′ found start end p fits same le on r there =
     (is-spelled p found (law .1) is, reads ∙ ap (λ q. took q (drop end bs′)) (sym (is-principal p found (law .1) is)))
 
 -- the end of an input
-over : {A : Type 0} (x : A) (bs : List ℕ) → 0 < length bs → ended x bs ≡ stopped LeftOver (length bs)
-over x [] h = absurd (omega arith)
-over x (b ∷ bs) h = refl
+over : (bs : List ℕ) → 0 < length bs → at-end bs ≡ stopped LeftOver (length bs)
+over [] h = absurd (omega arith)
+over (b ∷ bs) h = refl
 
-none : {A : Type 0} (x : A) (bs : List ℕ) → length bs ≡ 0 → ended x bs ≡ took x []
-none x [] h = refl
-none x (b ∷ bs) h = absurd (omega arith)
+none : (bs : List ℕ) → length bs ≡ 0 → at-end bs ≡ took tt bs
+none [] h = refl
+none (b ∷ bs) h = absurd (omega arith)
 
-pub left-over : {A : Type 0} (x : A) (c : Cursor) → 0 < unread c → ended x (rest c) ≡ stopped LeftOver (unread c)
-left-over x c h = over x (rest c) (omega (arith, length-drop (c .at) (now (c .bytes)))) ∙ ap (stopped LeftOver) (length-drop (c .at) (now (c .bytes)))
+pub left-over : (at : ℕ) (bs : List ℕ) → at < length bs → at-end (drop at bs) ≡ stopped LeftOver (length bs - at)
+left-over at bs h = over (drop at bs) (omega (arith, length-drop at bs)) ∙ ap (stopped LeftOver) (length-drop at bs)
 
-pub nothing-left : {A : Type 0} (x : A) (c : Cursor) → unread c ≡ 0 → ended x (rest c) ≡ took x []
-nothing-left x c h = none x (rest c) (length-drop (c .at) (now (c .bytes)) ∙ h)
+pub nothing-left : (at : ℕ) (bs : List ℕ) → length bs ≤ at → at-end (drop at bs) ≡ took tt (drop at bs)
+nothing-left at bs h = none (drop at bs) (omega (arith, length-drop at bs))
+
+pub tells-end : (c : Cursor) → Tells-end c (leb (length (now (c .bytes))) (c .at))
+tells-end c =
+    let bs = now (c .bytes) in
+    let go : (b : Bool) → leb (length bs) (c .at) ≡ b → Tells-end c b =
+    λ b. elim b as (λ v. leb (length bs) (c .at) ≡ v → Tells-end c v) [ true ↦ λ e. nothing-left (c .at) bs (leb-true _ _ e) | false ↦ λ e. left-over (c .at) bs (leb-false _ _ e) ] in
+    go (leb (length bs) (c .at)) refl
 
 -- a readable term at the front is read
 pub front-is : (x : Principal) (bs more : List ℕ) → Readable x → bs ≡ encode x ++ more → read-term bs ≡ took x more

@@ -1,5 +1,6 @@
 -- What a cursor's readers do, by what is left to read.
 use mathlib.Core.Path.{_≡_}
+use mathlib.Core.Bool.{Bool, true, false}
 use mathlib.Core.List.{List}
 use Prim.Native.Nat.{ℕ, _+_, _-_, _<_, _≤_}
 use lib.ListN.{length, drop}
@@ -7,10 +8,11 @@ use denote.Ref.{RefT, now}
 use Rattle.std.specs.Results.{Cases}
 use Rattle.std.specs.declared.result.Result.{Result}
 use Rattle.reading.specs.declared.cursor.Row.{Row}
+use Rattle.reading.specs.declared.cursor.Row.the-variants.{LeftOver}
 use Rattle.reading.specs.declared.cursor.Cursor.{Cursor}
 use Rattle.reading.specs.Numbers.{number}
 use Rattle.reading.specs.Principal.{Principal}
-use Rattle.reading.specs.Reading.{Outcome, took, stopped}
+use Rattle.reading.specs.Reading.{Outcome, took, stopped, at-end}
 use Rattle.reading.specs.Terms.{Spelled, principal}
 
 -- the input that a cursor is over
@@ -50,6 +52,11 @@ Starts width outcome r after =
 abbrev pub Spells-term : Outcome Principal → Result (RefT (List ℕ)) Row → Cursor → Type 0
 Spells-term outcome r after =
     Or-stopped outcome after r (λ bytes. Spelled (bytes .now) × (outcome ≡ took (principal (bytes .now)) (rest after)))
+
+-- whether nothing is left
+abbrev pub Tells-end : Cursor → Bool → Type 0
+Tells-end c true = at-end (rest c) ≡ took tt (rest c)
+Tells-end c false = at-end (rest c) ≡ stopped LeftOver (unread c)
 
 -- the cursor does not go back, and goes on where something was read
 abbrev pub Forward : {A : Type 0} → Cursor → Cursor → Result A Row → Type 0

@@ -79,7 +79,11 @@ read-inner whole bs = read-within (length bs) whole bs
 abbrev pub read-term : List ℕ → Outcome Principal
 read-term bs = read-inner (length bs) bs
 
+-- nothing is left
+abbrev pub at-end : List ℕ → Outcome (Unit {0})
+at-end [] = took tt []
+at-end (b ∷ bs) = stopped LeftOver (length (b ∷ bs))
+
 -- nothing follows what was read
-abbrev pub ended : {A : Type 0} → A → List ℕ → Outcome A
-ended x [] = took x []
-ended x (b ∷ bs) = stopped LeftOver (length (b ∷ bs))
+abbrev pub alone : {A : Type 0} → Outcome A → Outcome A
+alone outcome = then outcome (λ x rest. then (at-end rest) (λ _ end. took x end))

@@ -4,9 +4,9 @@ ghost use Prim.Native.Nat.{ℕ, _<_, _≤_};
 ghost use lib.ListN.{length};
 ghost use Rattle.std.specs.Orderings.{Decides};
 ghost use Rattle.reading.specs.Principal.{encode, as-role};
-ghost use Rattle.reading.specs.Reading.{read-term};
+ghost use Rattle.reading.specs.Reading.{read-term, alone};
 ghost use Rattle.reading.specs.Cursors.{over, rest};
-ghost use Rattle.principal.specs.Terms.{Sound, means, Reads-term, Reads-last-term, read-input, Answers};
+ghost use Rattle.principal.specs.Terms.{Sound, means, Reads-term, read-input, Answers};
 ghost use Rattle.principal.specs.Shapes.{kind, Has-number, Of-number, Has-two-terms, Of-two-terms, Inside, shown, Parts-inside};
 ghost use Rattle.principal.specs.Voices.{Voiced, has-voice};
 use crate::term::Shape;
@@ -35,7 +35,7 @@ impl<'a> Term<'a> {
     // The term at the cursor, with nothing after it.
     pub fn last(cursor: &mut Cursor<'a>) -> Result<Term<'a>, Row>
         ensures same { λ _. ⌜ over (now (cursor .exit)) ≡ over (now (cursor .entry)) ⌝ }
-        ensures reads { λ r. ⌜ Reads-last-term (read-term (rest (now (cursor .entry)))) r (now (cursor .exit)) ⌝ }
+        ensures reads { λ r. ⌜ Reads-term (alone (read-term (rest (now (cursor .entry))))) r (now (cursor .exit)) ⌝ }
     {
         let term = Term::next(cursor)?;
         cursor.end()?;

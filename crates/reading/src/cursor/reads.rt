@@ -4,13 +4,13 @@ ghost use Prim.Native.Nat.{ℕ, _+_, _-_, _≤_, _<_};
 ghost use lib.ListN.{length, drop};
 ghost use Rattle.std.specs.Results.{Cases};
 ghost use Rattle.std.specs.declared.option.Option.the-variants.{Some, None};
-ghost use Rattle.reading.specs.Reading.{barred, inner-number, read-number, read-inner, read-term};
+ghost use Rattle.reading.specs.Reading.{barred, inner-number, read-number, read-inner, read-term, at-end};
 ghost use Rattle.reading.specs.Reading.{parts};
 ghost use Rattle.reading.specs.Kinds.{form};
 ghost use Rattle.reading.specs.Numbers.{number, Bytes};
 ghost use Rattle.reading.specs.Terms.{part};
 ghost use Rattle.reading.specs.Refusals.{fault-at};
-ghost use Rattle.reading.specs.Cursors.{over, rest, unread, span, Reads, Passes, Starts, Spells-term, Forward};
+ghost use Rattle.reading.specs.Cursors.{over, rest, unread, span, Reads, Passes, Starts, Spells-term, Tells-end, Forward};
 use crate::cursor::Cursor;
 use crate::cursor::Row;
 use crate::refusal::Place;
@@ -177,14 +177,21 @@ impl<'a> Cursor<'a> {
         Ok(between(self.bytes, start, self.at))
     }
 
+    fn is_over(&self) -> bool
+        ensures { λ r. ⌜ Tells-end (now (self .entry)) r ⌝ }
+    {
+        self.at >= self.bytes.len()
+    }
+
     // Nothing is left to read.
     pub fn end(&self) -> Result<(), Row>
-        ensures { λ r. ⌜ Cases r (λ _. unread (now (self .entry)) ≡ 0) (λ row. (row ≡ Row.LeftOver) × (0 < unread (now (self .entry)))) ⌝ }
+        ensures { λ r. ⌜ Reads (at-end (rest (now (self .entry)))) r (now (self .entry)) ⌝ }
     {
-        if self.at < self.bytes.len() {
-            return Err(Row::LeftOver);
+        if self.is_over() {
+            Ok(())
+        } else {
+            Err(Row::LeftOver)
         }
-        Ok(())
     }
 
     // How many bytes are left to read.
