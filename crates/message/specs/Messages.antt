@@ -70,8 +70,12 @@ abbrev pub any-kind : List Kind
 any-kind = statements ∷ strikes ∷ requests ∷ []
 
 -- the fields of a message of the kind, and nothing after them
-abbrev pub read-fields : Kind → List ℕ → Outcome Content
-read-fields k bs = alone (then (read-values (layout k) bs) (λ vs rest. took (content k vs) rest))
+abbrev pub all-fields : Kind → List ℕ → Outcome Content
+all-fields k bs = alone (then (read-values (layout k) bs) (λ vs rest. took (content k vs) rest))
+
+-- the same, shut: proofs about whole messages need not look inside
+unfoldable pub read-fields : Kind → List ℕ → Outcome Content
+read-fields k bs = all-fields k bs
 
 abbrev pub read-named : Option Kind → List ℕ → ℕ → Outcome Content
 read-named (Some k) bs whole = read-fields k bs

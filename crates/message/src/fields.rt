@@ -1,7 +1,7 @@
 // The fields of each kind of message, after its kind byte, to the end of the input.
 ghost use mathlib.Core.Path.{_≡_};
 ghost use Rattle.reading.specs.Cursors.{over, rest};
-ghost use Rattle.message.specs.Messages.{read-fields, statements, strikes, requests};
+ghost use Rattle.message.specs.Messages.{all-fields, statements, strikes, requests};
 ghost use Rattle.message.specs.Said.{stated, struck, requested, Sound-statement, Sound-request, Reads-all};
 use crate::Request;
 use crate::Statement;
@@ -12,7 +12,7 @@ use reading::cursor::Row;
 
 pub fn statement<'a>(cursor: &mut Cursor<'a>) -> Result<Statement<'a>, Row>
     ensures same { λ _. ⌜ over (now (cursor .exit)) ≡ over (now (cursor .entry)) ⌝ }
-    ensures reads { λ r. ⌜ Reads-all stated Sound-statement (read-fields statements (rest (now (cursor .entry)))) r (now (cursor .exit)) ⌝ }
+    ensures reads { λ r. ⌜ Reads-all stated Sound-statement (all-fields statements (rest (now (cursor .entry)))) r (now (cursor .exit)) ⌝ }
 {
     let serial = cursor.word()?;
     let from = cursor.word()?;
@@ -33,7 +33,7 @@ pub fn statement<'a>(cursor: &mut Cursor<'a>) -> Result<Statement<'a>, Row>
 
 pub fn strike(cursor: &mut Cursor) -> Result<Strike, Row>
     ensures same { λ _. ⌜ over (now (cursor .exit)) ≡ over (now (cursor .entry)) ⌝ }
-    ensures reads { λ r. ⌜ Reads-all struck (λ _. Unit {0}) (read-fields strikes (rest (now (cursor .entry)))) r (now (cursor .exit)) ⌝ }
+    ensures reads { λ r. ⌜ Reads-all struck (λ _. Unit {0}) (all-fields strikes (rest (now (cursor .entry)))) r (now (cursor .exit)) ⌝ }
 {
     let serial = cursor.word()?;
     cursor.end()?;
@@ -42,7 +42,7 @@ pub fn strike(cursor: &mut Cursor) -> Result<Strike, Row>
 
 pub fn request<'a>(cursor: &mut Cursor<'a>) -> Result<Request<'a>, Row>
     ensures same { λ _. ⌜ over (now (cursor .exit)) ≡ over (now (cursor .entry)) ⌝ }
-    ensures reads { λ r. ⌜ Reads-all requested Sound-request (read-fields requests (rest (now (cursor .entry)))) r (now (cursor .exit)) ⌝ }
+    ensures reads { λ r. ⌜ Reads-all requested Sound-request (all-fields requests (rest (now (cursor .entry)))) r (now (cursor .exit)) ⌝ }
 {
     let number = cursor.word()?;
     let object = cursor.half()?;
