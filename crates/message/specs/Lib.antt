@@ -1,3 +1,4 @@
 pub mod Fields
 pub mod Messages
 pub mod Said
+pub mod Writing

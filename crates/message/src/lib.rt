@@ -1,6 +1,7 @@
 // Messages: read from bytes, and written into a buffer.
 mod fields;
 pub mod read;
+pub mod write;
 
 use principal::term::Term;
 
