@@ -1,2 +1,4 @@
 pub mod Readers
 pub mod Parts
+pub mod Values
+pub mod Rows

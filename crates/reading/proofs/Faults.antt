@@ -67,7 +67,7 @@ number-seen whole front bs all e h u w fits =
     (λ room short. fails-here whole front bs all four-bytes CutShort e h u w (omega arith, short))
     (λ room long. ends-took _ _ _ _ (spelled-number 4 bs fits long, number-small 4 bs fits, omega (arith, ap length (spelled-number 4 bs fits long))))
 
-more-bytes : (bs front more : List ℕ) → Bytes bs → bs ≡ front ++ more → Bytes more
+pub more-bytes : (bs front more : List ℕ) → Bytes bs → bs ≡ front ++ more → Bytes more
 more-bytes bs front more fits e i = subst (λ n. n < 256) (ap (λ l. getD l (length front + i) 0) e ∙ getD-append-add front more i 0) (fits (length front + i))
 
 module _ (whole kind : ℕ) (bs : List ℕ) (fits : Bytes bs) (room : whole + 1 ≤ length (kind ∷ bs) + 60) (within : length (kind ∷ bs) ≤ whole) (inner : (l : List ℕ) → length l ≤ length bs → Bytes l → length l ≤ whole → whole ≤ length l + 60 → Seen whole l (read-inner whole l)) where
