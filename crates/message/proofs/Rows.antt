@@ -132,12 +132,12 @@ named-is (j ∷ ks) byte k e =
       | false ↦ λ t f. named-is ks byte k f
     ] refl e
 
-encoded : (k : Kind) (vs : Values (layout k)) → Values-fit (layout k) vs → (encode-message (content k vs) ≡ kind-byte k ∷ write-values (layout k) vs) × Fits-message (content k vs) × (kind (content k vs) ≡ k)
+pub encoded : (k : Kind) (vs : Values (layout k)) → Values-fit (layout k) vs → (encode-message (content k vs) ≡ kind-byte k ∷ write-values (layout k) vs) × Fits-message (content k vs) × (kind (content k vs) ≡ k)
 encoded statements vs h = (refl, h, refl)
 encoded strikes vs h = (refl, h, refl)
 encoded requests vs h = (refl, h, refl)
 
-decoded : (m : Content) → content (kind m) (values m) ≡ m
+pub decoded : (m : Content) → content (kind m) (values m) ≡ m
 decoded (statement serial begins ends sayer left right) = refl
 decoded (strike serial) = refl
 decoded (request n object operation sayer) = refl
@@ -215,16 +215,20 @@ answered-ok : (whole : ℕ) (o : Outcome Content) (m : Content) → answered 1 w
 answered-ok whole (took n rest) m e = (rest, ap (λ x. took x rest) (let same : n ≡ m = cc in same))
 answered-ok whole (stopped row left) m e = let z : _≡_ {A = ℕ} 0 1 = cc in absurd (omega arith)
 
+pub message-reads : (taken : List Kind) (bs : List ℕ) (m : Content) → bs ≡ encode-message m → Fits-message m → named taken (kind-byte (kind m)) ≡ Some (kind m) → read-message taken bs ≡ Ok m
+message-reads taken bs m e h n =
+    let written = write-values (layout (kind m)) (values m) in
+    let fields : all-fields (kind m) written ≡ took m [] =
+    ap (all-fields (kind m)) (sym (append-nil written))
+    ∙ ap (λ o. alone (then o (λ vs rest. took (content (kind m) vs) rest))) (values-read (layout (kind m)) (values m) [] h)
+    ∙ ap (λ x. took x []) (decoded m) in
+    told (kind m) taken bs written (took m []) e n fields
+
 pub messages-are-read : Exactly-messages-are-read
 unfolding Is-message
 messages-are-read taken bs fits m = (
   λ e. let o = answered-ok (length bs) (read-bytes taken bs) m e in took-ends _ _ (read-bytes taken bs) m (o .0) (o .1) (seen taken bs fits),
-  λ (e, h, n).
-      let fields : all-fields (kind m) (write-values (layout (kind m)) (values m)) ≡ took m [] =
-      ap (all-fields (kind m)) (sym (append-nil (write-values (layout (kind m)) (values m))))
-      ∙ ap (λ o. alone (then o (λ vs rest. took (content (kind m) vs) rest))) (values-read (layout (kind m)) (values m) [] h)
-      ∙ ap (λ x. took x []) (decoded m) in
-      told (kind m) taken bs (write-values (layout (kind m)) (values m)) (took m []) e n fields,
+  λ (e, h, n). message-reads taken bs m e h n,
 )
 
 stuck : (taken : List Kind) (before here : List ℕ) (next : Next) (row : Row) → Bytes (before ++ here) → Begun-message taken before next → Fails-next taken row next here → read-bytes taken (before ++ here) ≡ stopped row (length here)

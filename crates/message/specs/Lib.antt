@@ -3,3 +3,4 @@ pub mod Messages
 pub mod Said
 pub mod Writing
 pub mod Laws
+pub mod RoundTrip

@@ -1,5 +1,6 @@
 // Messages: read from bytes, and written into a buffer.
 mod fields;
+pub mod laws;
 pub mod read;
 pub mod write;
 
