@@ -1,0 +1,4 @@
+pub mod Decimals
+pub mod Hex
+pub mod Split
+pub mod Words
