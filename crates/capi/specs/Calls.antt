@@ -26,8 +26,16 @@ size p = length (encode p)
 abbrev pub told : Content → GateMessage
 told (statement serial begins ends sayer left right) =
     record {
-      kind = 1; serial = serial; from = begins; until = ends; number = 0; object = 0; operation = 0;
-      sayer = range 13 (size sayer); left = range (13 + size sayer) (size left); right = range (13 + size sayer + size left) (size right)
+      kind = 1;
+      serial = serial;
+      from = begins;
+      until = ends;
+      number = 0;
+      object = 0;
+      operation = 0;
+      sayer = range 13 (size sayer);
+      left = range (13 + size sayer) (size left);
+      right = range (13 + size sayer + size left) (size right);
     }
 told (strike serial) =
     record { kind = 2; serial = serial; from = 0; until = 0; number = 0; object = 0; operation = 0; sayer = range 0 0; left = range 0 0; right = range 0 0 }

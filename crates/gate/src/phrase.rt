@@ -68,7 +68,10 @@ fn request(q: Request, out: &mut Vec<u8>) -> io::Result<()>
     let operation = q.operation;
     let object = q.object;
     let number = q.number;
-    write!(out, " asks for operation {operation} on object {object} (request {number})")
+    write!(
+        out,
+        " asks for operation {operation} on object {object} (request {number})"
+    )
 }
 
 pub fn message(m: Message, out: &mut Vec<u8>) -> io::Result<()>
@@ -110,5 +113,8 @@ pub fn refusal(fault: ReadFault, out: &mut Vec<u8>) -> io::Result<()> {
     let number = told.number;
     let start = told.place.start;
     let len = told.place.len;
-    write!(out, "refused ({name} {number}): {why}, from byte {start}, {len} to the end")
+    write!(
+        out,
+        "refused ({name} {number}): {why}, from byte {start}, {len} to the end"
+    )
 }

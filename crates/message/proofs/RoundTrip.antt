@@ -71,7 +71,7 @@ any-named requests = refl
 laid-ok : (bytes buffer : List ℕ) (n : ℕ) → laid-answer bytes buffer ≡ Ok n → n ≡ length bytes
 laid-ok bytes buffer n e =
     elim (ltb (length buffer) (length bytes)) as (λ b. cond b (Err NoRoom) (Ok (length bytes)) ≡ Ok n → n ≡ length bytes) [
-      true ↦ λ f. let z : _≡_ {A = ℕ} 0 1 = cc in absurd (omega arith)
+      | true ↦ λ f. let z : _≡_ {A = ℕ} 0 1 = cc in absurd (omega arith)
       | false ↦ λ f. let same : length bytes ≡ n = cc in sym same
     ] e
 
@@ -92,8 +92,7 @@ read-messages-write-back taken bs fits m e buffer room =
     let law = messages-are-read taken bs fits m .0 e in
     let draft : drafted (kind m) (givens (layout (kind m)) (values m)) ≡ Ok m =
     ap (λ r. and-then r (λ vs. Ok (content (kind m) vs))) (passes (layout (kind m)) 1 (values m) (law .1)) ∙ ap Ok (decoded m) in
-    let long : length (encode-message m) ≡ length bs = sym (ap length (law .0)) in
-    (
+    let long : length (encode-message m) ≡ length bs = sym (ap length (law .0)) in (
       ap (λ r. write-answer r buffer) draft ∙ cond-false _ _ _ (le-ltb (length buffer) (length (encode-message m)) (omega arith)) ∙ ap Ok long,
       ap (λ r. buffer-after r (Ok (length bs)) buffer) draft ∙ ap (λ l. l ++ drop (length bs) buffer) (sym (law .0)),
     )

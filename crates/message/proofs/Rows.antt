@@ -68,7 +68,7 @@ module _ (taken : List Kind) where
         split = s .split;
         left-here = s .left-here;
         begun = at-term fs (s .before) (s .next) (s .unfinished) (subst (λ n. n ≤ 60) same (s .within));
-        fails = subst (λ n. Fails row n (s .next) (s .here)) same (s .fails)
+        fails = subst (λ n. Fails row n (s .next) (s .here)) same (s .fails);
       })
 
   value-seen : (f : Field) (fs : List Field) (bs : List ℕ) → Bytes bs → Ends (Fronts f bs) (Stops-fields taken (f ∷ fs) bs) (read-value f bs)
@@ -87,7 +87,7 @@ module _ (taken : List Kind) where
         split = e ∙ ap (λ l. write-value f v ++ l) (s .split) ∙ sym (append-assoc (write-value f v) (s .before) (s .here));
         left-here = s .left-here;
         begun = past f fs v (s .before) (s .next) h (s .begun);
-        fails = s .fails
+        fails = s .fails;
       }
 
   values-seen : (fs : List Field) (bs : List ℕ) → Bytes bs → Ends (All-front fs bs) (Stops-fields taken fs bs) (read-values fs bs)
@@ -128,7 +128,7 @@ named-is : (taken : List Kind) (byte : ℕ) (k : Kind) → named taken byte ≡ 
 named-is [] byte k e = let z : _≡_ {A = ℕ} 0 1 = cc in absurd (omega arith)
 named-is (j ∷ ks) byte k e =
     elim (eqb byte (kind-byte j)) as (λ b. eqb byte (kind-byte j) ≡ b → cond b (Some j) (named ks byte) ≡ Some k → byte ≡ kind-byte k) [
-      true ↦ λ t f. eqb-true _ _ t ∙ ap kind-byte (let same : j ≡ k = cc in same)
+      | true ↦ λ t f. eqb-true _ _ t ∙ ap kind-byte (let same : j ≡ k = cc in same)
       | false ↦ λ t f. named-is ks byte k f
     ] refl e
 
@@ -155,7 +155,7 @@ named-seen taken byte bs (Some k) fits e =
     let own : named taken (kind-byte k) ≡ Some k = ap (named taken) (sym is) ∙ e in
     let lift : (o : Outcome Content) → Ends (λ m _. Holds taken k bs m []) (Stops-fields taken (layout k) bs) o → Ends (λ m _. Is-message taken (byte ∷ bs) m) (Stops-message taken (byte ∷ bs)) o =
     λ o. elim o as (λ v. Ends (λ m _. Holds taken k bs m []) (Stops-fields taken (layout k) bs) v → Ends (λ m _. Is-message taken (byte ∷ bs) m) (Stops-message taken (byte ∷ bs)) v) [
-      took m rest ↦ λ h.
+      | took m rest ↦ λ h.
           let held = took-ends _ _ (took m rest) m rest refl h in
           let code = encoded k (held .0) (held .3) in
           let bytes : byte ∷ bs ≡ encode-message m = (λ i. is i ∷ (held .2 ∙ append-nil _) i) ∙ sym (code .0) ∙ ap encode-message (sym (held .1)) in
@@ -169,7 +169,7 @@ named-seen taken byte bs (Some k) fits e =
             split = (λ i. is i ∷ s .split i);
             left-here = s .left-here;
             begun = with-kind k (s .before) (s .next) own (s .begun);
-            fails = s .fails
+            fails = s .fails;
           })
     ] in
     lift (all-fields k bs) (fields-seen taken k bs fits)

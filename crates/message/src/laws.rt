@@ -7,12 +7,10 @@ ghost use Rattle.message.specs.RoundTrip.{Written-messages-read-back, Read-mes
 pub fn reading_is_exact()
     ensures messages { λ _. ⌜ Exactly-messages-are-read ⌝ }
     ensures rows { λ _. ⌜ Message-rows-are-exact ⌝ }
-{
-}
+{}
 
 // A message that is written reads back as its fields, and one that is read is written again as the same bytes.
 pub fn messages_round_trip()
     ensures written { λ _. ⌜ Written-messages-read-back ⌝ }
     ensures read { λ _. ⌜ Read-messages-write-back ⌝ }
-{
-}
+{}

@@ -30,7 +30,7 @@ deeper whole front bs all row left e h grow s =
       left-here = s .left-here;
       unfinished = grow (s .before) (s .next) (s .unfinished);
       within = subst (λ n. n ≤ 60) done (s .within);
-      fails = subst (λ n. Fails row n (s .next) (s .here)) done (s .fails)
+      fails = subst (λ n. Fails row n (s .next) (s .here)) done (s .fails);
     }
 
 -- a term at the front of bs, and the rest
@@ -56,7 +56,7 @@ fails-here whole front here all next row e h u w f =
       left-here = refl;
       unfinished = u;
       within = omega arith;
-      fails = subst (λ n. Fails row n next here) done f
+      fails = subst (λ n. Fails row n next here) done f;
     }
 
 number-seen : (whole : ℕ) (front bs all : List ℕ) → all ≡ front ++ bs → length all ≤ whole → Unfinished front four-bytes → whole ≤ length bs + 60 → Bytes bs → Ends (Number-fronts whole bs) (Stops (whole - length all) all) (inner-number whole bs)

@@ -7,5 +7,4 @@ pub fn reading_is_exact()
     ensures terms { λ _. ⌜ Exactly-terms-are-read ⌝ }
     ensures rows { λ _. ⌜ Rows-are-exact ⌝ }
     ensures apart { λ _. ⌜ Terms-are-told-apart ⌝ }
-{
-}
+{}

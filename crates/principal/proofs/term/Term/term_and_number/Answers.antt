@@ -30,5 +30,5 @@ returns c =
     let second = one-outcome _ _ _ _ _ (c .in-Ok-word .ensures tt .reads) (number-is (p .n) _ (p .small) (first .1)) in
     record {
       of = p .of ∙ sym (λ i. as-role (first .0 i) (second .0 i));
-      first = record { sound = got .0; shorter = omega (arith, as-long _ (p .x) (got .0) (first .0), p .long) }
+      first = record { sound = got .0; shorter = omega (arith, as-long _ (p .x) (got .0) (first .0), p .long) };
     }

@@ -35,5 +35,5 @@ returns c =
     record {
       of = subst (λ x. Of-two-terms (means (c .args .self)) x (means (c .in-Ok-next .y))) (sym (first .0)) of-y;
       first = record { sound = got-x .0; shorter = omega (arith, as-long _ (p .x) (got-x .0) (first .0), p .long) };
-      second = record { sound = got-y .0; shorter = omega (arith, as-long _ (p .y) (got-y .0) (second .0), p .long) }
+      second = record { sound = got-y .0; shorter = omega (arith, as-long _ (p .y) (got-y .0) (second .0), p .long) };
     }

@@ -28,7 +28,7 @@ returns-in-Number t c =
     record {
       same = c .inner-number .ensures .same;
       on = forward (c .inner-number .result) (s .at) (s .at + 1) (e .at) (omega arith) (c .inner-number .ensures .on);
-      reads = number-case _ _ _ here (c .inner-number .result) e (c .in-Number .ensures tt) (c .inner-number .ensures .reads)
+      reads = number-case _ _ _ here (c .inner-number .result) e (c .in-Number .ensures tt) (c .inner-number .ensures .reads);
     }
 
 pub returns-in-Break-inner-term : need.returns-in-Break-inner-term
@@ -60,8 +60,8 @@ returns-in-Continue-inner-term t c =
       same = second .same ∙ first .same;
       on = forward r (s .at) (m .at) (e .at) (omega (arith, first .on)) (second .on);
       reads =
-        pair-case _ _ _ here r (first .reads .0) (rest m) e (c .in-TwoTerms .ensures tt) (first .reads .1)
-            (subst (λ l. Passes (read-inner (length l - c .args .start) (rest m)) r e) (first .same) (second .reads))
+          pair-case _ _ _ here r (first .reads .0) (rest m) e (c .in-TwoTerms .ensures tt) (first .reads .1)
+          (subst (λ l. Passes (read-inner (length l - c .args .start) (rest m)) r e) (first .same) (second .reads));
     }
 
 pub returns-in-Continue-inner-term-2 : need.returns-in-Continue-inner-term-2
@@ -77,6 +77,6 @@ returns-in-Continue-inner-term-2 t c =
       same = second .same ∙ first .same;
       on = forward r (s .at) (m .at) (e .at) (omega (arith, first .on)) (second .on);
       reads =
-        role-case _ _ _ here r (first .reads .0) (rest m) e (c .in-TermAndNumber .ensures tt) (first .reads .1)
-            (subst (λ l. Passes (inner-number (length l - c .args .start) (rest m)) r e) (first .same) (second .reads))
+          role-case _ _ _ here r (first .reads .0) (rest m) e (c .in-TermAndNumber .ensures tt) (first .reads .1)
+          (subst (λ l. Passes (inner-number (length l - c .args .start) (rest m)) r e) (first .same) (second .reads));
     }

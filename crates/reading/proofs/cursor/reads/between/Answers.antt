@@ -7,5 +7,5 @@ pub returns : need.returns
 returns c =
     record {
       value = c .split-at-2 .ensures .front ∙ ap (take (c .args .end - c .args .start)) (c .split-at .ensures .back);
-      fits = λ i. c .typed .bytes i .fits
+      fits = λ i. c .typed .bytes i .fits;
     }
