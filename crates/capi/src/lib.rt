@@ -2,7 +2,7 @@
 ghost use mathlib.Core.Path.{_≡_};
 ghost use Rattle.reading.specs.Refusals.{refused};
 ghost use Rattle.message.specs.Messages.{strike, read-message, any-kind, statements, strikes, requests};
-ghost use Rattle.message.specs.Writing.{drafted, write-answer, buffer-after};
+ghost use Rattle.writer.specs.Writing.{drafted, write-answer, buffer-after};
 ghost use Rattle.capi.specs.Calls.{range, size, told, layer-told, place-told, Read-told, Written-told};
 ghost use Prim.Native.Nat.{_≤_};
 ghost use Rattle.principal.specs.Terms.{Sound, means};
@@ -10,12 +10,12 @@ ghost use Rattle.message.specs.Said.{stated, requested, Sound-statement, Sound-
 use message::Message;
 use message::Request;
 use message::Statement;
-use message::write::write_request;
-use message::write::write_statement;
-use message::write::write_strike;
 use principal::term::Term;
 use reading::refusal::Layer;
 use reading::refusal::ReadFault;
+use writer::write_request;
+use writer::write_statement;
+use writer::write_strike;
 
 // A part of the message: where it starts, and how long it is.
 #[repr(C)]

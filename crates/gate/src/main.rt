@@ -2,30 +2,34 @@
 mod answer;
 mod line;
 mod phrase;
+mod text;
 
 use crate::answer::answer;
 use crate::line::Line;
 use crate::line::parse;
+use crate::text::Text;
+use std::alloc::AllocError;
+use std::alloc::Global;
 use std::io;
 use std::io::BufRead;
 use std::io::BufReader;
 use std::io::Write;
 
-// A line that is no call prints nothing; one that cannot be understood changes nothing, and the script goes on.
-fn carry_out(rt: &LibcRuntime, line: &[u8]) -> io::Result<()> {
-    let mut text = Vec::new(rt.alloc());
-    match parse(rt.alloc(), line)? {
+// A blank line and a comment print nothing. A line that is no call changes nothing, and the script goes on.
+fn carry_out(heap: Global, line: &[u8], text: &mut Text) -> Result<(), AllocError> {
+    match parse(heap, line)? {
         Line::Nothing => return Ok(()),
-        Line::Bad => text.extend_from_slice(b"bad line")?,
-        Line::Call(call) => answer(rt.alloc(), &call, &mut text)?,
+        Line::Bad => text.push(b"bad line")?,
+        Line::Call(call) => answer(heap, &call, text)?,
     }
-    text.extend_from_slice(b"\n")?;
-    rt.stdout().write_all(text.as_slice())
+    text.push(b"\n")
 }
 
 fn main(rt: LibcRuntime) -> io::Result<()> {
     for line in BufReader::new(rt.stdin()).split(rt.alloc(), b'\n') {
-        carry_out(&rt, line?.as_slice())?;
+        let mut text = Text::new(rt.alloc());
+        carry_out(rt.alloc(), line?.as_slice(), &mut text)?;
+        rt.stdout().write_all(text.as_bytes())?;
     }
     Ok(())
 }

@@ -1,6 +1,7 @@
 // Principals, messages and refusals in words.
 ghost use Rattle.principal.specs.Terms.{Sound};
 ghost use Rattle.message.specs.Said.{Sound-statement, Sound-request, Sound-message};
+use crate::text::Text;
 use message::Message;
 use message::Request;
 use message::Statement;
@@ -8,113 +9,114 @@ use principal::term::Shape;
 use principal::term::Term;
 use reading::refusal::Layer;
 use reading::refusal::ReadFault;
-use std::io;
-use std::io::Write;
+use std::alloc::AllocError;
 
-// Compound principals stand in brackets.
-pub fn principal(term: Term, out: &mut Vec<u8>) -> io::Result<()>
+// Two principals with a word between them, in brackets.
+fn pair(x: Term, word: &[u8], y: Term, text: &mut Text) -> Result<(), AllocError>
+    requires { ⌜ Sound x ⌝ ∗ ⌜ Sound y ⌝ }
+{
+    text.push(b"(")?;
+    principal(x, text)?;
+    text.push(word)?;
+    principal(y, text)?;
+    text.push(b")")
+}
+
+fn role(x: Term, role: u32, text: &mut Text) -> Result<(), AllocError>
+    requires { ⌜ Sound x ⌝ }
+{
+    text.push(b"(")?;
+    principal(x, text)?;
+    text.push(b" as")?;
+    text.push_number(u64::from(role))?;
+    text.push(b")")
+}
+
+fn numbered(word: &[u8], number: u32, text: &mut Text) -> Result<(), AllocError> {
+    text.push(word)?;
+    text.push_number(u64::from(number))
+}
+
+pub fn principal(term: Term, text: &mut Text) -> Result<(), AllocError>
     requires { ⌜ Sound term ⌝ }
 {
     match term.shape() {
-        Shape::Channel(number) => write!(out, "channel {number}"),
-        Shape::Name(number) => write!(out, "name {number}"),
-        Shape::Both(x, y) => {
-            write!(out, "(")?;
-            principal(x, out)?;
-            write!(out, " and ")?;
-            principal(y, out)?;
-            write!(out, ")")
-        }
-        Shape::Quoting(x, y) => {
-            write!(out, "(")?;
-            principal(x, out)?;
-            write!(out, " quoting ")?;
-            principal(y, out)?;
-            write!(out, ")")
-        }
-        Shape::AsRole(x, role) => {
-            write!(out, "(")?;
-            principal(x, out)?;
-            write!(out, " as {role})")
-        }
-        Shape::ActingFor(x, y) => {
-            write!(out, "(")?;
-            principal(x, out)?;
-            write!(out, " for ")?;
-            principal(y, out)?;
-            write!(out, ")")
-        }
+        Shape::Channel(number) => numbered(b"channel", number, text),
+        Shape::Name(number) => numbered(b"name", number, text),
+        Shape::Both(x, y) => pair(x, b" and ", y, text),
+        Shape::Quoting(x, y) => pair(x, b" quoting ", y, text),
+        Shape::AsRole(x, number) => role(x, number, text),
+        Shape::ActingFor(x, y) => pair(x, b" for ", y, text),
     }
 }
 
-fn statement(s: Statement, out: &mut Vec<u8>) -> io::Result<()>
+fn statement(s: Statement, text: &mut Text) -> Result<(), AllocError>
     requires { ⌜ Sound-statement s ⌝ }
 {
-    principal(s.sayer, out)?;
-    write!(out, " says that ")?;
-    principal(s.left, out)?;
-    write!(out, " speaks for ")?;
-    principal(s.right, out)?;
-    let from = s.from;
-    let until = s.until;
-    let serial = s.serial;
-    write!(out, ", from {from} until {until} (serial {serial})")
+    principal(s.sayer, text)?;
+    text.push(b" says that ")?;
+    principal(s.left, text)?;
+    text.push(b" speaks for ")?;
+    principal(s.right, text)?;
+    numbered(b", from", s.from, text)?;
+    numbered(b" until", s.until, text)?;
+    numbered(b" (serial", s.serial, text)?;
+    text.push(b")")
 }
 
-fn request(q: Request, out: &mut Vec<u8>) -> io::Result<()>
+fn strike(serial: u32, text: &mut Text) -> Result<(), AllocError> {
+    numbered(b"the statement with serial", serial, text)?;
+    text.push(b" is struck")
+}
+
+fn request(q: Request, text: &mut Text) -> Result<(), AllocError>
     requires { ⌜ Sound-request q ⌝ }
 {
-    principal(q.sayer, out)?;
-    let operation = q.operation;
-    let object = q.object;
-    let number = q.number;
-    write!(
-        out,
-        " asks for operation {operation} on object {object} (request {number})"
-    )
+    principal(q.sayer, text)?;
+    numbered(b" asks for operation", u32::from(q.operation), text)?;
+    numbered(b" on object", u32::from(q.object), text)?;
+    numbered(b" (request", q.number, text)?;
+    text.push(b")")
 }
 
-pub fn message(m: Message, out: &mut Vec<u8>) -> io::Result<()>
+pub fn message(m: Message, text: &mut Text) -> Result<(), AllocError>
     requires { ⌜ Sound-message m ⌝ }
 {
     match m {
-        Message::Statement(s) => statement(s, out),
-        Message::Strike(s) => {
-            let serial = s.serial;
-            write!(out, "the statement with serial {serial} is struck")
-        }
-        Message::Request(q) => request(q, out),
+        Message::Statement(s) => statement(s, text),
+        Message::Strike(s) => strike(s.serial, text),
+        Message::Request(q) => request(q, text),
     }
 }
 
-pub fn layer(layer: Layer) -> &'static str {
+pub fn layer(layer: Layer) -> &'static [u8] {
     match layer {
-        Layer::Reading => "reading",
-        Layer::Seal => "seal",
-        Layer::Guard => "guard",
-        Layer::Journal => "journal",
+        Layer::Reading => b"reading",
+        Layer::Seal => b"seal",
+        Layer::Guard => b"guard",
+        Layer::Journal => b"journal",
     }
 }
 
-fn reason(fault: ReadFault) -> &'static str {
+fn reason(fault: ReadFault) -> &'static [u8] {
     match fault {
-        ReadFault::CutShort(_) => "the bytes end inside a field or term",
-        ReadFault::UnknownKind(_) => "a kind byte that is not taken there",
-        ReadFault::TooLong(_) => "the term would pass 60 bytes",
-        ReadFault::LeftOver(_) => "bytes are left over",
-        ReadFault::NoRoom => "the message is longer than its buffer",
+        ReadFault::CutShort(_) => b"the bytes end inside a field or term",
+        ReadFault::UnknownKind(_) => b"a kind byte that is not taken there",
+        ReadFault::TooLong(_) => b"the term would pass 60 bytes",
+        ReadFault::LeftOver(_) => b"bytes are left over",
+        ReadFault::NoRoom => b"the message is longer than its buffer",
     }
 }
 
-pub fn refusal(fault: ReadFault, out: &mut Vec<u8>) -> io::Result<()> {
-    let why = reason(fault);
-    let told = fault.refusal();
-    let name = layer(told.layer);
-    let number = told.number;
-    let start = told.place.start;
-    let len = told.place.len;
-    write!(
-        out,
-        "refused ({name} {number}): {why}, from byte {start}, {len} to the end"
-    )
+// The refusal in words, and its place: which input, from which byte, how many to its end.
+pub fn refusal(fault: ReadFault, text: &mut Text) -> Result<(), AllocError> {
+    let place = fault.refusal().place;
+    text.push(b"refused: ")?;
+    text.push(reason(fault))?;
+    numbered(b" (input", place.input, text)?;
+    text.push(b", from byte")?;
+    text.push_number(place.start as u64)?;
+    text.push(b", length")?;
+    text.push_number(place.len as u64)?;
+    text.push(b")")
 }

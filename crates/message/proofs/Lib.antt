@@ -1,5 +1,3 @@
 pub mod Readers
-pub mod Parts
 pub mod Values
 pub mod Rows
-pub mod RoundTrip

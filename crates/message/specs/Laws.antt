@@ -1,4 +1,4 @@
--- What reading and writing messages give, in the words of the format.
+-- What reading messages gives, in the words of the format.
 use mathlib.Core.Path.{_≡_}
 use mathlib.Core.Logic.{_⊎_}
 use mathlib.Core.List.{List, [], _∷_, _++_}

@@ -1,8 +1,7 @@
-// Messages: read from bytes, and written into a buffer.
+// Messages, read from bytes.
 mod fields;
 pub mod laws;
 pub mod read;
-pub mod write;
 
 use principal::term::Term;
 

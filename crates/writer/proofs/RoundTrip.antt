@@ -21,11 +21,11 @@ use Rattle.reading.specs.Refusals.{answered}
 use Rattle.reading.proofs.Faults.{terms-are-read}
 use Rattle.reading.proofs.Terms.{last-is}
 use Rattle.principal.specs.Terms.{read-input}
 use Rattle.message.specs.Fields.{Field, number, term, Value, Values, Values-fit}
 use Rattle.message.specs.Messages.{Content, statement, strike, request, Kind, statements, strikes, requests, kind-byte, layout, kind, values, content, encode-message, Fits-message, named, any-kind, read-message}
-use Rattle.message.specs.Writing.{Givens, and-then, check, drafted, laid-answer, write-answer, buffer-after}
-use Rattle.message.specs.RoundTrip.{Givens-fit, givens, Written-messages-read-back, Read-messages-write-back}
+use Rattle.writer.specs.Writing.{Givens, and-then, check, drafted, laid-answer, write-answer, buffer-after}
+use Rattle.writer.specs.RoundTrip.{Givens-fit, givens, Written-messages-read-back, Read-messages-write-back}
 use Rattle.message.proofs.Rows.{message-reads, messages-are-read, encoded, decoded}
 
 -- a readable principal's term, as an input
 input-is : (input : ℕ) (p : Principal) → Readable p → read-input input (encode p) ≡ Ok p

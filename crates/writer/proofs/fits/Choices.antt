@@ -1,8 +1,8 @@
 use mathlib.Core.Path.{_≡_}
 use Prim.Native.Nat.{_+_}
 use lib.ListN.{length, take}
-use Rattle.message.specs.Writing.{joined}
-use Rattle.message.proofs.write.fits.Given as given
+use Rattle.writer.specs.Writing.{joined}
+use Rattle.writer.proofs.fits.Given as given
 
 -- what is left of the room, and what the parts so far take, are the room there was
 abbrev pub Inv-loop-part : given.InvT-loop-part

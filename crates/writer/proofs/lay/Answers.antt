@@ -3,14 +3,10 @@ use mathlib.Core.List.{List, [], _++_}
 use Prim.Native.Nat.{ℕ, _+_, _-_, _≤_, _<_}
 use native.Mathlib.Omega.{arith}
 use lib.ListN.{length, getD, take, drop}
-use denote.Ref.{RefT}
 use Rattle.std.proofs.shelf.Lists.{length-append, take-all}
-use Rattle.message.specs.Writing.{joined}
-use Rattle.message.proofs.Parts.{joined-more, joined-within, put-next}
-use Rattle.message.proofs.write.lay.Needs as need
-
-blank : RefT (List ℕ)
-blank = record { ptr = (0, 0); name = 0; now = [] }
+use Rattle.writer.specs.Writing.{joined}
+use Rattle.writer.proofs.Parts.{blank, joined-more, joined-within, put-next}
+use Rattle.writer.proofs.lay.Needs as need
 
 pub add-end : need.add-end
 unfolding blank

@@ -6,9 +6,9 @@ use lib.ListN.{length, take, drop}
 use Rattle.std.specs.declared.result.Result.the-variants.{Ok}
 use Rattle.reading.specs.Numbers.{Bytes}
 use Rattle.reading.specs.Principal.{encode}
 use Rattle.message.specs.Fields.{Field, number, term, Value, Values}
 use Rattle.message.specs.Messages.{Content, Kind, layout, kind, values, any-kind, read-message}
-use Rattle.message.specs.Writing.{Given, Givens, drafted, write-answer, buffer-after}
+use Rattle.writer.specs.Writing.{Given, Givens, drafted, write-answer, buffer-after}
 
 -- each number given fits its field, and each term is given as bytes
 abbrev pub Given-fits : (f : Field) → Given f → Type 0

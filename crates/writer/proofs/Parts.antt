@@ -7,7 +7,11 @@ use native.Mathlib.Numerals.{add-one}
 use lib.ListN.{length, getD, take, drop}
 use denote.Ref.{RefT, now}
 use Rattle.std.proofs.shelf.Lists.{take-at, drop-at, drop-drop, length-append}
-use Rattle.message.specs.Writing.{joined}
+use Rattle.writer.specs.Writing.{joined}
+
+-- what stands past the end of a list of parts
+unfoldable pub blank : RefT (List ℕ)
+blank = record { ptr = (0, 0); name = 0; now = [] }
 
 joined-suc : (ps : List (RefT (List ℕ))) (i : ℕ) (d : RefT (List ℕ)) → i < length ps → joined (take (suc i) ps) ≡ joined (take i ps) ++ getD ps i d .now
 joined-suc [] i d h = absurd (omega arith)

@@ -1,8 +1,8 @@
 use mathlib.Core.Path.{_≡_}
 use mathlib.Core.List.{_++_}
 use lib.ListN.{length, take, drop}
-use Rattle.message.specs.Writing.{joined}
-use Rattle.message.proofs.write.lay.Given as given
+use Rattle.writer.specs.Writing.{joined}
+use Rattle.writer.proofs.lay.Given as given
 
 -- the parts so far are written, and the rest of the buffer is as it was
 abbrev pub Inv-loop-part : given.InvT-loop-part

@@ -1,7 +1,7 @@
 use mathlib.Core.Path.{ap, _∙_}
-use Rattle.message.specs.Writing.{laid-answer, laid-buffer}
-use Rattle.message.proofs.Parts.{six-parts}
-use Rattle.message.proofs.write.put_statement.Needs as need
+use Rattle.writer.specs.Writing.{laid-answer, laid-buffer}
+use Rattle.writer.proofs.Parts.{six-parts}
+use Rattle.writer.proofs.put_statement.Needs as need
 
 pub returns : need.returns
 returns c =

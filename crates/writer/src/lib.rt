@@ -1,4 +1,4 @@
-// Writers of messages, each from its fields, the terms given as bytes.
+// Writes messages into a lent buffer, each from its fields, the terms given as bytes.
 ghost use mathlib.Core.Path.{_≡_};
 ghost use mathlib.Core.List.{[], _++_};
 ghost use Prim.Native.Nat.{ℕ, _+_, _≤_};
@@ -6,8 +6,11 @@ ghost use lib.ListN.{length, drop};
 ghost use lib.Dec.{leb};
 ghost use Rattle.reading.specs.Numbers.{spelled};
 ghost use Rattle.principal.specs.Terms.{Sound, means};
 ghost use Rattle.message.specs.Messages.{statement, statements, strikes, requests, encode-message};
-ghost use Rattle.message.specs.Writing.{joined, drafted, write-answer, buffer-after, laid-answer, laid-buffer};
+ghost use Rattle.writer.specs.Writing.{joined, drafted, write-answer, buffer-after, laid-answer, laid-buffer};
+
+pub mod laws;
+
 use principal::term::Term;
 use reading::refusal::ReadFault;
 

@@ -3,15 +3,11 @@ use mathlib.Core.List.{List, []}
 use Prim.Native.Nat.{ℕ, _+_}
 use native.Mathlib.Omega.{arith}
 use lib.ListN.{length, getD, take}
-use denote.Ref.{RefT}
 use borrow.Author.Tests.{le-leb, lt-leb}
 use Rattle.std.proofs.shelf.Lists.{length-append, take-all}
-use Rattle.message.specs.Writing.{joined}
-use Rattle.message.proofs.Parts.{joined-more, joined-within}
-use Rattle.message.proofs.write.fits.Needs as need
-
-blank : RefT (List ℕ)
-blank = record { ptr = (0, 0); name = 0; now = [] }
+use Rattle.writer.specs.Writing.{joined}
+use Rattle.writer.proofs.Parts.{blank, joined-more, joined-within}
+use Rattle.writer.proofs.fits.Needs as need
 
 pub returns-then-room-part : need.returns-then-room-part
 unfolding blank

@@ -1,5 +1,0 @@
-use Rattle.message.proofs.RoundTrip.{written-messages-read-back, read-messages-write-back}
-use Rattle.message.proofs.laws.messages_round_trip.Needs as need
-
-pub returns : need.returns
-returns c = record { written = written-messages-read-back; read = read-messages-write-back }
