@@ -1,4 +1,4 @@
-// Takes a script's line apart.
+// The calls of a script: each line is taken apart into what it asks for.
 use script::hex::unhex;
 use script::numbers::decimal;
 use script::words::Words;
@@ -131,22 +131,36 @@ impl<'a> Arguments<'a> {
     }
 
     fn write(&mut self) -> Result<Call, Fault> {
-        match self.word()? {
-            b"statement" => Ok(Call::WriteStatement(self.statement()?)),
-            b"strike" => Ok(Call::WriteStrike(self.four_bytes()?, self.room()?)),
-            b"request" => Ok(Call::WriteRequest(self.request()?)),
-            _ => Err(Fault::Bad),
+        let name = self.word()?;
+        if name == b"statement" {
+            Ok(Call::WriteStatement(self.statement()?))
+        } else if name == b"strike" {
+            Ok(Call::WriteStrike(self.four_bytes()?, self.room()?))
+        } else if name == b"request" {
+            Ok(Call::WriteRequest(self.request()?))
+        } else {
+            Err(Fault::Bad)
         }
     }
 
+    fn named(&mut self) -> Result<Call, Fault> {
+        let name = self.word()?;
+        if name == b"term" {
+            Ok(Call::Term(self.bytes()?))
+        } else if name == b"message" {
+            Ok(Call::Message(self.bytes()?))
+        } else if name == b"show" {
+            Ok(Call::Show(self.bytes()?))
+        } else if name == b"write" {
+            self.write()
+        } else {
+            Err(Fault::Bad)
+        }
+    }
+
+    // A call, with no word after it.
     fn call(&mut self) -> Result<Call, Fault> {
-        let call = match self.word()? {
-            b"term" => Call::Term(self.bytes()?),
-            b"message" => Call::Message(self.bytes()?),
-            b"show" => Call::Show(self.bytes()?),
-            b"write" => self.write()?,
-            _ => return Err(Fault::Bad),
-        };
+        let call = self.named()?;
         self.end()?;
         Ok(call)
     }

@@ -9,35 +9,34 @@ use principal::term::Shape;
 use principal::term::Term;
 use reading::refusal::Layer;
 use reading::refusal::ReadFault;
-use std::alloc::AllocError;
 
 // Two principals with a word between them, in brackets.
-fn pair(x: Term, word: &[u8], y: Term, text: &mut Text) -> Result<(), AllocError>
+fn pair(x: Term, word: &[u8], y: Term, text: &mut Text)
     requires { ⌜ Sound x ⌝ ∗ ⌜ Sound y ⌝ }
 {
-    text.push(b"(")?;
-    principal(x, text)?;
-    text.push(word)?;
-    principal(y, text)?;
+    text.push(b"(");
+    principal(x, text);
+    text.push(word);
+    principal(y, text);
     text.push(b")")
 }
 
-fn role(x: Term, role: u32, text: &mut Text) -> Result<(), AllocError>
+fn role(x: Term, role: u32, text: &mut Text)
     requires { ⌜ Sound x ⌝ }
 {
-    text.push(b"(")?;
-    principal(x, text)?;
-    text.push(b" as")?;
-    text.push_number(u64::from(role))?;
+    text.push(b"(");
+    principal(x, text);
+    text.push(b" as");
+    text.push_number(u64::from(role));
     text.push(b")")
 }
 
-fn numbered(word: &[u8], number: u32, text: &mut Text) -> Result<(), AllocError> {
-    text.push(word)?;
+fn numbered(word: &[u8], number: u32, text: &mut Text) {
+    text.push(word);
     text.push_number(u64::from(number))
 }
 
-pub fn principal(term: Term, text: &mut Text) -> Result<(), AllocError>
+pub fn principal(term: Term, text: &mut Text)
     requires { ⌜ Sound term ⌝ }
 {
     match term.shape() {
@@ -50,36 +49,36 @@ pub fn principal(term: Term, text: &mut Text) -> Result<(), AllocError>
     }
 }
 
-fn statement(s: Statement, text: &mut Text) -> Result<(), AllocError>
+fn statement(s: Statement, text: &mut Text)
     requires { ⌜ Sound-statement s ⌝ }
 {
-    principal(s.sayer, text)?;
-    text.push(b" says that ")?;
-    principal(s.left, text)?;
-    text.push(b" speaks for ")?;
-    principal(s.right, text)?;
-    numbered(b", from", s.from, text)?;
-    numbered(b" until", s.until, text)?;
-    numbered(b" (serial", s.serial, text)?;
+    principal(s.sayer, text);
+    text.push(b" says that ");
+    principal(s.left, text);
+    text.push(b" speaks for ");
+    principal(s.right, text);
+    numbered(b", from", s.from, text);
+    numbered(b" until", s.until, text);
+    numbered(b" (serial", s.serial, text);
     text.push(b")")
 }
 
-fn strike(serial: u32, text: &mut Text) -> Result<(), AllocError> {
-    numbered(b"the statement with serial", serial, text)?;
+fn strike(serial: u32, text: &mut Text) {
+    numbered(b"the statement with serial", serial, text);
     text.push(b" is struck")
 }
 
-fn request(q: Request, text: &mut Text) -> Result<(), AllocError>
+fn request(q: Request, text: &mut Text)
     requires { ⌜ Sound-request q ⌝ }
 {
-    principal(q.sayer, text)?;
-    numbered(b" asks for operation", u32::from(q.operation), text)?;
-    numbered(b" on object", u32::from(q.object), text)?;
-    numbered(b" (request", q.number, text)?;
+    principal(q.sayer, text);
+    numbered(b" asks for operation", u32::from(q.operation), text);
+    numbered(b" on object", u32::from(q.object), text);
+    numbered(b" (request", q.number, text);
     text.push(b")")
 }
 
-pub fn message(m: Message, text: &mut Text) -> Result<(), AllocError>
+pub fn message(m: Message, text: &mut Text)
     requires { ⌜ Sound-message m ⌝ }
 {
     match m {
@@ -109,14 +108,14 @@ fn reason(fault: ReadFault) -> &'static [u8] {
 }
 
 // The refusal in words, and its place: which input, from which byte, how many to its end.
-pub fn refusal(fault: ReadFault, text: &mut Text) -> Result<(), AllocError> {
+pub fn refusal(fault: ReadFault, text: &mut Text) {
     let place = fault.refusal().place;
-    text.push(b"refused: ")?;
-    text.push(reason(fault))?;
-    numbered(b" (input", place.input, text)?;
-    text.push(b", from byte")?;
-    text.push_number(place.start as u64)?;
-    text.push(b", length")?;
-    text.push_number(place.len as u64)?;
+    text.push(b"refused: ");
+    text.push(reason(fault));
+    numbered(b" (input", place.input, text);
+    text.push(b", from byte");
+    text.push_number(place.start as u64);
+    text.push(b", length");
+    text.push_number(place.len as u64);
     text.push(b")")
 }

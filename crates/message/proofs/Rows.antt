@@ -25,7 +25,7 @@ use Rattle.reading.proofs.Faults.{terms-are-read, rows-are-exact, more-bytes}
 use Rattle.reading.specs.Refusals.{answered}
 use Rattle.std.specs.declared.result.Result.the-variants.{Ok}
 use Rattle.message.proofs.Readers.{told}
-use Rattle.message.proofs.Values.{value-read, values-read}
+use Rattle.message.proofs.Values.{value-read, values-read, Made, made-go}
 use Rattle.message.specs.Fields.{Field, number, term, Value, Values, Value-fits, Values-fit, write-value, write-values, read-value, read-values}
 use Rattle.message.specs.Messages.{Content, statement, strike, request, Kind, statements, strikes, requests, kind-byte, layout, kind, values, content, encode-message, Fits-message, named, all-fields, read-fields, read-named, read-bytes, read-message}
 use Rattle.message.specs.Laws.{Next, the-kind, a-number, in-a-term, the-end, Begun, at-number, at-term, past, all-there, Begun-message, nothing-yet, with-kind, Fails-next, Stops-message, Exactly-messages-are-read, Message-rows-are-exact}
@@ -179,19 +179,6 @@ seen taken [] fits =
     ends-stopped _ _ _ _ (record { before = []; here = []; next = the-kind; split = refl; left-here = refl; begun = nothing-yet; fails = inl (refl, refl) })
 seen taken (byte ∷ bs) fits = named-seen taken byte bs (named taken byte) (λ i. fits (suc i)) refl
 
-then-then : {A B C : Type 0} (o : Outcome A) (f : A → List ℕ → Outcome B) (g : B → List ℕ → Outcome C) → then (then o f) g ≡ then o (λ x rest. then (f x rest) g)
-then-then (took x rest) f g = refl
-then-then (stopped row left) f g = refl
-
--- the message that the values make, with nothing after it
-abbrev Made : (fs : List Field) → (Values fs → Content) → List ℕ → Outcome Content
-Made fs make bs = alone (then (read-values fs bs) (λ vs rest. took (make vs) rest))
-
-made-past : (f : Field) (fs : List Field) (make : Value f × Values fs → Content) (v : Value f) (bs : List ℕ) → Value-fits f v → Made (f ∷ fs) make (write-value f v ++ bs) ≡ Made fs (λ vs. make (v, vs)) bs
-made-past f fs make v bs h =
-    ap (λ o. alone (then (then o (λ v rest. then (read-values fs rest) (λ vs end. took (v, vs) end))) (λ vs rest. took (make vs) rest))) (value-read f v bs h)
-    ∙ ap alone (then-then (read-values fs bs) (λ vs end. took (v, vs) end) (λ vs rest. took (make vs) rest))
-
 left-over : (make : Unit {0} → Content) (here : List ℕ) → 0 < length here → Made [] make here ≡ stopped LeftOver (length here)
 left-over make [] h = absurd (omega arith)
 left-over make (b ∷ bs) h = refl
@@ -207,7 +194,7 @@ sticks taken fs′ make before here next row fits (at-term fs bs item u within) 
     ap (λ o. alone (then (then o (λ v rest. then (read-values fs rest) (λ vs end. took (v, vs) end))) (λ vs rest. took (make vs) rest))) (rows-are-exact (bs ++ here) fits row (length here) .1 stops)
 sticks taken fs′ make before here next row fits (past f fs v bs n h b) fail =
     ap (Made (f ∷ fs) make) (append-assoc (write-value f v) bs here)
-    ∙ made-past f fs make v (bs ++ here) h
+    ∙ made-go f fs make (write-value f v ++ (bs ++ here)) v (bs ++ here) (value-read f v (bs ++ here) h)
     ∙ sticks taken fs (λ vs. make (v, vs)) bs here next row (more-bytes ((write-value f v ++ bs) ++ here) (write-value f v) (bs ++ here) fits (append-assoc (write-value f v) bs here)) b fail
 sticks taken fs′ make before here next row fits all-there (r, some) = left-over make here some ∙ ap (λ w. stopped w (length here)) (sym r)
 

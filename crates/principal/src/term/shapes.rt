@@ -57,7 +57,8 @@ impl<'a> Term<'a> {
         requires { ⌜ Sound self ⌝ }
         ensures { λ r. ⌜ now r ≡ encode (means (self .entry)) ⌝ }
     {
-        self.bytes
+        let whole = self.bytes;
+        whole
     }
 
     fn kind(self) -> u8

@@ -198,7 +198,8 @@ impl<'a> Cursor<'a> {
     pub fn left(&self) -> usize
         ensures { λ r. ⌜ r ≡ unread (now (self .entry)) ⌝ }
     {
-        self.bytes.len() - self.at
+        let whole = self.bytes.len();
+        whole - self.at
     }
 }
 
