@@ -1,8 +1,10 @@
 /* The gate's messages, for C: numbers and byte ranges only.
  *
  * Each call answers 0, or the number of a refusal. A refused call fills *refusal and leaves everything else as it was;
- * a call that is not refused leaves *refusal as it was. A range of no bytes may have any pointer, NULL among them.
- * No call allocates, and none keeps a pointer.
+ * a call that is not refused leaves *refusal as it was. No call allocates, and none keeps a pointer.
+ *
+ * The caller owes: no pointer is NULL, also that of a range of no bytes; each is valid for its length; and what is
+ * written to (out, written, refusal) overlaps neither each other nor a range that is read.
  */
 #ifndef GATE_H
 #define GATE_H

@@ -69,7 +69,7 @@ int main(void) {
     show(strike, sizeof strike);
     show(request, sizeof request);
 
-    show(NULL, 0);                               /* nothing */
+    show(statement, 0);                          /* nothing */
     show(statement, sizeof statement - 1);       /* cut short inside the last term */
     show((const uint8_t[]){9, 1, 2}, 3);         /* an unknown kind */
     show((const uint8_t[]){2, 0, 0, 0, 5, 6}, 6); /* a byte left over */

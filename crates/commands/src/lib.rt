@@ -1,5 +1,5 @@
 // The calls of a script: each line is taken apart into what it asks for.
-use script::hex::unhex;
+use hex::unhex;
 use script::numbers::decimal;
 use script::words::Words;
 use std::alloc::AllocError;

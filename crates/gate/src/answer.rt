@@ -1,13 +1,12 @@
 // Carries out calls, and says what came of them.
 ghost use Rattle.message.specs.Said.{Sound-statement, Sound-request};
-use crate::phrase;
-use crate::text::Text;
 use commands::Call;
 use commands::RequestFields;
 use commands::StatementFields;
 use message::Message;
 use message::Request;
 use message::Statement;
+use phrase::text::Text;
 use principal::term::Term;
 use reading::refusal::ReadFault;
 use std::alloc::AllocError;

@@ -1,12 +1,10 @@
 // gate: carries out a script, one call a line, and prints an answer for each.
 mod answer;
-mod phrase;
-mod text;
 
 use crate::answer::answer;
-use crate::text::Text;
 use commands::Line;
 use commands::parse;
+use phrase::text::Text;
 use std::alloc::AllocError;
 use std::alloc::Global;
 use std::io;

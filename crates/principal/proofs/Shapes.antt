@@ -7,7 +7,7 @@ use lib.ListN.{length, getD, drop}
 use Rattle.std.proofs.shelf.Lists.{length-append}
 use Rattle.reading.specs.Numbers.{spelled}
 use Rattle.reading.specs.Principal.{Principal, channel, name, both, quoting, as-role, acting-for, encode, Fits, Readable}
-use Rattle.principal.specs.Shapes.{kind, Has-two-terms, Of-two-terms}
+use Rattle.principal.specs.Shapes.{kind, Has-number, Of-number, Has-two-terms, Of-two-terms}
 
 -- a term's first byte is its kind
 pub kind-byte : (p : Principal) (bs : List ℕ) → bs ≡ encode p → (getD bs 0 0 ≡ kind p) × (0 < length bs)
@@ -25,6 +25,23 @@ kinds (both x y) = (omega arith, omega arith)
 kinds (quoting x y) = (omega arith, omega arith)
 kinds (as-role x n) = (omega arith, omega arith)
 kinds (acting-for x y) = (omega arith, omega arith)
+
+-- what stands inside a term of a number
+pub record Numbered (p : Principal) (bs : List ℕ) : Type 0 where
+  pub n : ℕ
+  pub parts : drop 1 bs ≡ spelled 4 n
+  pub small : n < 2 ^ 32
+  pub of : Of-number p n
+
+pub numbered-of : (p : Principal) (bs : List ℕ) → bs ≡ encode p → Readable p → Has-number (kind p) → Numbered p bs
+numbered-of (channel n) bs e r h =
+    record { n = n; parts = ap (drop 1) e; small = r .fits; of = record { is-channel = λ k. refl; is-name = λ k. absurd (omega arith) } }
+numbered-of (name n) bs e r h =
+    record { n = n; parts = ap (drop 1) e; small = r .fits; of = record { is-channel = λ k. absurd (omega arith); is-name = λ k. refl } }
+numbered-of (both x y) bs e r h = absurd (grind arith)
+numbered-of (quoting x y) bs e r h = absurd (grind arith)
+numbered-of (as-role x n) bs e r h = absurd (grind arith)
+numbered-of (acting-for x y) bs e r h = absurd (grind arith)
 
 -- what stands inside a term of two terms
 pub record Pair (p : Principal) (bs : List ℕ) : Type 0 where

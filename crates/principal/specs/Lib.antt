@@ -1,3 +1,4 @@
 pub mod Terms
 pub mod Shapes
 pub mod Voices
+pub mod Laws

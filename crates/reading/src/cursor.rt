@@ -5,8 +5,6 @@ ghost use denote.Ref.{now};
 
 mod reads;
 
-pub use reads::word_at;
-
 // Why an item could not be read.
 #[derive(Clone, Copy)]
 pub enum Row {

@@ -1,4 +1,3 @@
 pub mod Decimals
-pub mod Hex
 pub mod Split
 pub mod Words

@@ -1,5 +1,4 @@
-// The words of a script's lines: numbers, bytes in hex, and the parts between spaces.
-pub mod hex;
+// The words of a script's lines: the parts between spaces, and decimal numbers.
 pub mod laws;
 pub mod numbers;
 pub mod words;

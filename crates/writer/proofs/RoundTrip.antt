@@ -18,7 +18,7 @@ use Rattle.reading.specs.Numbers.{Bytes}
 use Rattle.reading.specs.Principal.{Principal, encode, Readable}
 use Rattle.reading.specs.Reading.{Outcome, took, stopped, then, at-end, alone, read-term}
 use Rattle.reading.specs.Refusals.{answered}
-use Rattle.reading.proofs.Faults.{terms-are-read}
+use Rattle.principal.proofs.Inputs.{one-term}
 use Rattle.reading.proofs.Terms.{last-is}
 use Rattle.principal.specs.Terms.{read-input}
 use Rattle.message.specs.Fields.{Field, number, term, Value, Values, Values-fit}
@@ -31,14 +31,9 @@ use Rattle.message.proofs.Rows.{message-reads, messages-are-read, encoded, deco
 input-is : (input : ℕ) (p : Principal) → Readable p → read-input input (encode p) ≡ Ok p
 input-is input p r = ap (λ o. answered input (length (encode p)) (alone o)) (last-is p (encode p) r refl)
 
-alone-ok : (input whole : ℕ) (o : Outcome Principal) (p : Principal) → answered input whole (alone o) ≡ Ok p → (rest : List ℕ) × (o ≡ took p rest)
-alone-ok input whole (took q []) p e = ([], ap (λ x. took x []) (let same : q ≡ p = cc in same))
-alone-ok input whole (took q (b ∷ bs)) p e = let z : _≡_ {A = ℕ} 0 1 = cc in absurd (omega arith)
-alone-ok input whole (stopped row left) p e = let z : _≡_ {A = ℕ} 0 1 = cc in absurd (omega arith)
-
 -- an input that is read as p is readable
 input-readable : (input : ℕ) (bs : List ℕ) (p : Principal) → Bytes bs → read-input input bs ≡ Ok p → Readable p
-input-readable input bs p fits e = let o = alone-ok input (length bs) (read-term bs) p e in terms-are-read bs fits p (o .0) .0 (o .1) .1
+input-readable input bs p fits e = one-term input bs fits p .0 e .1
 
 and-then-ok : {A B : Type 0} (r : Result A ReadFault) (next : A → Result B ReadFault) (y : B) → and-then r next ≡ Ok y → (x : A) × (r ≡ Ok x) × (next x ≡ Ok y)
 and-then-ok (Ok x) next y e = (x, refl, e)

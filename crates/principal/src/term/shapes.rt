@@ -13,7 +13,6 @@ use crate::term::Shape;
 use crate::term::Term;
 use reading::cursor::Cursor;
 use reading::cursor::Row;
-use reading::cursor::word_at;
 use reading::refusal::ReadFault;
 
 fn equal(a: &[u8], b: &[u8]) -> bool
@@ -33,7 +32,7 @@ impl<'a> Term<'a> {
     }
 
     // The term at the cursor, with nothing after it.
-    pub fn last(cursor: &mut Cursor<'a>) -> Result<Term<'a>, Row>
+    fn last(cursor: &mut Cursor<'a>) -> Result<Term<'a>, Row>
         ensures same { λ _. ⌜ over (now (cursor .exit)) ≡ over (now (cursor .entry)) ⌝ }
         ensures reads { λ r. ⌜ Reads-term (alone (read-term (rest (now (cursor .entry))))) r (now (cursor .exit)) ⌝ }
     {
@@ -74,7 +73,12 @@ impl<'a> Term<'a> {
         requires { ⌜ Sound self ⌝ ∗ ⌜ Has-number (kind (means self)) ⌝ }
         ensures { λ r. ⌜ Of-number (means (self .entry)) r ⌝ }
     {
-        word_at(self.bytes, 1)
+        let (_, parts) = self.bytes.split_at(1);
+        let mut cursor = Cursor::new(parts);
+        let Ok(number) = cursor.word() else {
+            unreachable()
+        };
+        number
     }
 
     // The two terms inside.

@@ -4,8 +4,7 @@ ghost use Prim.Native.Nat.{ℕ, _+_, _-_, _≤_, _<_};
 ghost use lib.ListN.{length, drop};
 ghost use Rattle.std.specs.Results.{Cases};
 ghost use Rattle.std.specs.declared.option.Option.the-variants.{Some, None};
-ghost use Rattle.reading.specs.Reading.{barred, inner-number, read-number, read-inner, read-term, at-end};
-ghost use Rattle.reading.specs.Reading.{parts};
+ghost use Rattle.reading.specs.Reading.{parts, barred, inner-number, read-number, read-inner, read-term, at-end};
 ghost use Rattle.reading.specs.Kinds.{form};
 ghost use Rattle.reading.specs.Numbers.{number, Bytes};
 ghost use Rattle.reading.specs.Terms.{part};
@@ -50,7 +49,7 @@ fn half_at(bytes: &[u8], at: usize) -> u16
     u16::from_be_bytes([bytes[at], bytes[at + 1]])
 }
 
-pub fn word_at(bytes: &[u8], at: usize) -> u32
+fn word_at(bytes: &[u8], at: usize) -> u32
     requires { ⌜ at + 4 ≤ length (now bytes) ⌝ }
     ensures { λ r. ⌜ r ≡ number 4 (drop at (now (bytes .entry))) ⌝ }
 {

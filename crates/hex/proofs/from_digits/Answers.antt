@@ -5,10 +5,10 @@ use borrow.Author.Needs.{needs}
 use borrow.Author.Tests.{eqb-true, eqb-false}
 use lib.ListN.{length}
 use Rattle.std.specs.Of.Vec.{vec-items}
-use Rattle.script.specs.Hex.{Bytes}
-use Rattle.script.proofs.Spelling.{twice, bytes-push, no-byte, a-byte, all-read}
-use Rattle.script.proofs.hex.from_digits.Needs as need
-use Rattle.script.proofs.hex.from_digits.Needs.{then-is-empty·by·then-is-empty, then-is-empty·by·else-is-empty·then-word-ne0}
+use Rattle.hex.specs.Spelling.{Bytes}
+use Rattle.hex.proofs.Spelling.{twice, bytes-push, no-byte, a-byte, all-read}
+use Rattle.hex.proofs.from_digits.Needs as need
+use Rattle.hex.proofs.from_digits.Needs.{then-is-empty·by·then-is-empty, then-is-empty·by·else-is-empty·then-word-ne0}
 
 pub returns-then-is-empty : need.returns-then-is-empty
 returns-then-is-empty c bs s =

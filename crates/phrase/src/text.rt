@@ -1,5 +1,5 @@
 // The text of an answer.
-use script::hex::push_hex;
+use hex::push_hex;
 use std::alloc::AllocError;
 use std::alloc::Global;
 

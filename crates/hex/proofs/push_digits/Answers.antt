@@ -4,9 +4,9 @@ use native.Mathlib.Omega.{arith}
 use borrow.Author.Needs.{needs}
 use Rattle.std.proofs.shelf.Lists.{take-all}
 use Rattle.std.specs.Of.Vec.{vec-items}
-use Rattle.script.specs.Hex.{hex}
-use Rattle.script.proofs.Spelling.{pushed}
-use Rattle.script.proofs.hex.push_digits.Needs as need
+use Rattle.hex.specs.Spelling.{hex}
+use Rattle.hex.proofs.Spelling.{pushed}
+use Rattle.hex.proofs.push_digits.Needs as need
 
 pub loop-byte-again : need.loop-byte-again
 loop-byte-again c =

@@ -1,6 +1,9 @@
 // Principals, messages and refusals in words.
 ghost use Rattle.principal.specs.Terms.{Sound};
 ghost use Rattle.message.specs.Said.{Sound-statement, Sound-request, Sound-message};
+
+pub mod text;
+
 use crate::text::Text;
 use message::Message;
 use message::Request;

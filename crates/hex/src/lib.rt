@@ -6,7 +6,10 @@ ghost use Rattle.std.specs.Of.Vec.{vec-items};
 ghost use Rattle.std.specs.Vec.{made};
 ghost use Rattle.std.specs.Options.{Cases as BySome};
 ghost use Rattle.std.specs.Orderings.{Decides};
-ghost use Rattle.script.specs.Hex.{hex-digit, hex, spelled-bytes, Spells, Spells-none};
+ghost use Rattle.hex.specs.Spelling.{hex-digit, hex, spelled-bytes, Spells, Spells-none};
+
+pub mod laws;
+
 use std::alloc::AllocError;
 use std::alloc::Global;
 

@@ -6,7 +6,7 @@ use native.Mathlib.Omega.{arith}
 use lib.ListN.{length, getD, take, drop}
 use Rattle.std.proofs.shelf.Lists.{length-append, append-assoc, append-nil, take-more, nil-from-length}
 use Rattle.std.proofs.shelf.Ways.{tells}
-use Rattle.script.specs.Hex.{hex-digit, hex, spelled-bytes, Bytes, Spells, Words-tell-bytes-apart}
+use Rattle.hex.specs.Spelling.{hex-digit, hex, spelled-bytes, Bytes, Spells, Words-tell-bytes-apart}
 
 length-hex : (bs : List ℕ) → length (hex bs) ≡ 2 * length bs
 length-hex [] = refl

@@ -1,7 +1,7 @@
 use Prim.Native.Nat.{_+_, _*_, max}
 use lib.ListN.{length}
 use denote.Ref.{now}
-use Rattle.gate.proofs.phrase.+pair+principal+role.Given as given
+use Rattle.phrase.proofs.+pair+principal+role.Given as given
 
 abbrev pub μ-pair : given.MeasureT-pair
 μ-pair l = 1 + 2 * max (length (now (l .x .bytes))) (length (now (l .y .bytes)))
