@@ -1,4 +1,6 @@
 // The calls that a C program makes: numbers and byte ranges only.
+#![tactic(auto)]
+
 ghost use Rattle.std.specs.Prelude.{◌≡◌, ◌≤◌};
 ghost use Rattle.reading.specs.Refusals.{refused};
 ghost use Rattle.message.specs.Messages.{strike, read_message, any_kind, statements, strikes, requests};

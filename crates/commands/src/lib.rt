@@ -1,4 +1,6 @@
 // The calls of a script: each line is taken apart into what it asks for.
+#![tactic(auto)]
+
 use hex_words::unhex;
 use script::numbers::decimal;
 use script::words::Words;

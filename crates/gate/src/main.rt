@@ -1,4 +1,6 @@
 // gate: carries out a script, one call a line, and prints an answer for each.
+#![tactic(auto)]
+
 mod answer;
 
 use crate::answer::answer;

@@ -1,4 +1,6 @@
 // Bytes in lower-case hex, two digits a byte, and `-` for none.
+#![tactic(auto)]
+
 ghost use Rattle.std.specs.Prelude.{◌≡◌, ℕ, ◌<◌, [], ◌∷◌, ◌++◌, IfOk, Decides, MatchOption, OnOk, ◌≢◌};
 ghost use Rattle.hex_words.specs.Spelling.{hex_digit, hex, spelled_bytes, Spells, SpellsNone};
 

@@ -1,4 +1,6 @@
 // Messages, read from bytes.
+#![tactic(auto)]
+
 mod fields;
 pub mod laws;
 pub mod read;

@@ -1,4 +1,6 @@
 // Principals, messages and refusals in words.
+#![tactic(auto)]
+
 ghost use Rattle.principal.specs.Terms.{Sound};
 ghost use Rattle.message.specs.Said.{SoundStatement, SoundRequest, SoundMessage};
 

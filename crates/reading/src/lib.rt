@@ -1,4 +1,6 @@
 // Reads numbers and terms from bytes, and says what may go wrong there.
+#![tactic(auto)]
+
 pub mod cursor;
 pub mod laws;
 pub mod refusal;

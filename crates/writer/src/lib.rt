@@ -1,4 +1,6 @@
 // Writes messages into a lent buffer, each from its fields, the terms given as bytes.
+#![tactic(auto)]
+
 ghost use Rattle.std.specs.Prelude.{◌≡◌, ℕ, ◌+◌, ◌≤◌, [], ◌++◌, length, drop, nat_le};
 ghost use Rattle.reading.specs.Numbers.{spelled};
 ghost use Rattle.principal.specs.Terms.{Sound, means};
