@@ -11,7 +11,7 @@ use std::alloc::{AllocError, Global};
 fn is_dash(word: &[u8]) -> bool
     ensures { Decides result (word.now ≡ 45 ∷ []) }
 {
-    word == b"-"
+    word == b"-".as_slice()
 }
 
 fn digit_of(value: u8) -> u8

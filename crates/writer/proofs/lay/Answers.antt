@@ -9,9 +9,9 @@ unfolding blank
 overflow-add-end c =
     omega (arith, joined_within c.args.parts.now c.loop-part.part-index blank c.loop-part-test.true, c.loop-part.invariant.0, c.requires, c.well-formed.0.0)
 
-pub slice-bounds-copy-from-slice-end : goal.slice-bounds-copy-from-slice-end
+pub slice-bounds-copy_from_slice-end : goal.slice-bounds-copy_from_slice-end
 unfolding blank
-slice-bounds-copy-from-slice-end c =
+slice-bounds-copy_from_slice-end c =
     omega (arith, joined_within c.args.parts.now c.loop-part.part-index blank c.loop-part-test.true, c.loop-part.invariant.0, c.loop-part.auto.out, c.requires)
 
 pub loop-part-preserved : goal.loop-part-preserved
@@ -23,7 +23,7 @@ loop-part-preserved c =
     let more : joined (take (i + 1) ps) ≡ joined (take i ps) ++ part = joined_more ps i blank c.loop-part-test.true in
     let before = c.loop-part.invariant in
     let put =
-    put_next c.loop-part.at (c.loop-part.at + length part - c.loop-part.at) part c.copy-from-slice.new.self c.loop-part.out (joined (take i ps)) c.args.out.now c.copy-from-slice.ensures.after (omega arith) (sym before.0) before.1 in
+    put_next c.loop-part.at (c.loop-part.at + length part - c.loop-part.at) part c.copy_from_slice.new.self c.loop-part.out (joined (take i ps)) c.args.out.now c.copy_from_slice.ensures.after (omega arith) (sym before.0) before.1 in
     (omega (arith, ap length more, length-append (joined (take i ps)) part, before.0), put ∙ ap (λ l. l ++ drop (c.loop-part.at + length part) c.args.out.now) (sym more))
 
 pub returns : goal.returns

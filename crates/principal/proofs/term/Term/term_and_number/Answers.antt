@@ -9,20 +9,20 @@ use Rattle.principal.proofs.term.Term.term_and_number.Goals as goal
 pub unreachable-requires : goal.unreachable-requires
 unreachable-requires c =
     let p = role_of _ c.args.self.bytes.now c.requires.0.bytes c.requires.0.readable c.requires.1 in
-    let whole = c.new-cursor.ensures.left ∙ c.split-at.ensures.back ∙ p.parts in
+    let whole = c.new-cursor.ensures.left ∙ c.split_at.ensures.back ∙ p.parts in
     never_both _ _ _ _ _ (front_is p.x _ (spelled 4 p.n) p.readable whole) c.in-default.ensures.reads
 
 pub unreachable-requires-in-default-word : goal.unreachable-requires-in-default-word
 unreachable-requires-in-default-word c =
     let p = role_of _ c.args.self.bytes.now c.requires.0.bytes c.requires.0.readable c.requires.1 in
-    let whole = c.new-cursor.ensures.left ∙ c.split-at.ensures.back ∙ p.parts in
+    let whole = c.new-cursor.ensures.left ∙ c.split_at.ensures.back ∙ p.parts in
     let first = one_outcome _ _ _ _ _ c.in-Ok.ensures.reads.1 (front_is p.x _ (spelled 4 p.n) p.readable whole) in
     never_both _ _ _ _ _ (number_is p.n _ p.small first.1) c.in-default-word.ensures.reads
 
 pub returns : goal.returns
 returns c =
     let p = role_of (means c.args.self) c.args.self.bytes.now c.requires.0.bytes c.requires.0.readable c.requires.1 in
-    let whole = c.new-cursor.ensures.left ∙ c.split-at.ensures.back ∙ p.parts in
+    let whole = c.new-cursor.ensures.left ∙ c.split_at.ensures.back ∙ p.parts in
     let got = c.in-Ok.ensures.reads in
     let first = one_outcome _ _ _ _ _ got.1 (front_is p.x _ (spelled 4 p.n) p.readable whole) in
     let second = one_outcome _ _ _ _ _ c.in-Ok-word.ensures.reads (number_is p.n _ p.small first.1) in
