@@ -10,12 +10,12 @@ returns-then-is_empty c bs s =
     let long = twice c.args.word.now bs c.requires s in
     elim c.then-is_empty.branch [ then-is_empty-via-then-is_empty w ↦ omega (arith, eqb-true _ 0 (sym c.is_empty.ensures ∙ w.if-is_empty.true)) | then-is_empty-via-else-is_empty+then-word-ne0 w ↦ omega arith ]
 
-pub returns-in-default : goal.returns-in-default
-returns-in-default c =
+pub returns-in_default : goal.returns-in_default
+returns-in_default c =
     let inv = c.loop-pair.invariant in
     let step = c.in-Some.ensures.steps in
     let two : length c.in-Some.pair.now ≡ 2 = omega arith in
-    no_byte _ (vec_items c.loop-pair.bytes) _ _ _ c.requires inv.0 step.1.0 two c.in-default.ensures
+    no_byte _ (vec_items c.loop-pair.bytes) _ _ _ c.requires inv.0 step.1.0 two c.in_default.ensures
 
 pub loop-pair-preserved : goal.loop-pair-preserved
 loop-pair-preserved c =

@@ -8,7 +8,7 @@ returns-in_err-n c =
     let cs = c.args.digits.now in
     let i = c.loop-digit.digit-index in
     let h = stops c.args.max c.loop-digit.n (get_or cs i 0) (drop (i + 1) cs) c.in_err-n.ensures in
-    rw c.from-residual.ensures (sym (at_drop_more (within_after c.args.max c.loop-digit.n) cs i 0 (omega arith) ∙ h) ∙ c.loop-digit.invariant.1)
+    rw c.from_residual.ensures (sym (at_drop_more (within_after c.args.max c.loop-digit.n) cs i 0 (omega arith) ∙ h) ∙ c.loop-digit.invariant.1)
 
 pub loop-digit-preserved : goal.loop-digit-preserved
 loop-digit-preserved c =

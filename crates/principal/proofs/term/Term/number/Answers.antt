@@ -9,7 +9,7 @@ pub unreachable-requires : goal.unreachable-requires
 unreachable-requires c =
     let p = numbered_of (means c.args.self) c.args.self.bytes.now c.requires.0.bytes c.requires.0.readable c.requires.1 in
     let whole = c.new-cursor.ensures.left ∙ c.split_at.ensures.back ∙ p.parts in
-    never_both _ _ _ _ _ (number_is p.n _ p.small whole) c.in-default.ensures.reads
+    never_both _ _ _ _ _ (number_is p.n _ p.small whole) c.in_default.ensures.reads
 
 pub returns : goal.returns
 returns c =

@@ -10,14 +10,14 @@ pub unreachable-requires : goal.unreachable-requires
 unreachable-requires c =
     let p = role_of _ c.args.self.bytes.now c.requires.0.bytes c.requires.0.readable c.requires.1 in
     let whole = c.new-cursor.ensures.left ∙ c.split_at.ensures.back ∙ p.parts in
-    never_both _ _ _ _ _ (front_is p.x _ (spelled 4 p.n) p.readable whole) c.in-default.ensures.reads
+    never_both _ _ _ _ _ (front_is p.x _ (spelled 4 p.n) p.readable whole) c.in_default.ensures.reads
 
-pub unreachable-requires-in-default-word : goal.unreachable-requires-in-default-word
-unreachable-requires-in-default-word c =
+pub unreachable-requires-in_default-word : goal.unreachable-requires-in_default-word
+unreachable-requires-in_default-word c =
     let p = role_of _ c.args.self.bytes.now c.requires.0.bytes c.requires.0.readable c.requires.1 in
     let whole = c.new-cursor.ensures.left ∙ c.split_at.ensures.back ∙ p.parts in
     let first = one_outcome _ _ _ _ _ c.in-Ok.ensures.reads.1 (front_is p.x _ (spelled 4 p.n) p.readable whole) in
-    never_both _ _ _ _ _ (number_is p.n _ p.small first.1) c.in-default-word.ensures.reads
+    never_both _ _ _ _ _ (number_is p.n _ p.small first.1) c.in_default-word.ensures.reads
 
 pub returns : goal.returns
 returns c =

@@ -11,14 +11,14 @@ pub unreachable-requires : goal.unreachable-requires
 unreachable-requires c =
     let p = pair_of _ c.args.self.bytes.now c.requires.0.bytes c.requires.0.readable c.requires.1 in
     let whole = c.new-cursor.ensures.left ∙ c.split_at.ensures.back ∙ p.parts in
-    never_both _ _ _ _ _ (front_is p.x _ (encode p.y) p.readable_x whole) c.in-default.ensures.reads
+    never_both _ _ _ _ _ (front_is p.x _ (encode p.y) p.readable_x whole) c.in_default.ensures.reads
 
-pub unreachable-requires-in-default-next : goal.unreachable-requires-in-default-next
-unreachable-requires-in-default-next c =
+pub unreachable-requires-in_default-next : goal.unreachable-requires-in_default-next
+unreachable-requires-in_default-next c =
     let p = pair_of _ c.args.self.bytes.now c.requires.0.bytes c.requires.0.readable c.requires.1 in
     let whole = c.new-cursor.ensures.left ∙ c.split_at.ensures.back ∙ p.parts in
     let first = one_outcome _ _ _ _ _ c.in-Ok.ensures.reads.1 (front_is p.x _ (encode p.y) p.readable_x whole) in
-    never_both _ _ _ _ _ (last_is p.y _ p.readable_y first.1) c.in-default-next.ensures.reads
+    never_both _ _ _ _ _ (last_is p.y _ p.readable_y first.1) c.in_default-next.ensures.reads
 
 pub returns : goal.returns
 returns c =

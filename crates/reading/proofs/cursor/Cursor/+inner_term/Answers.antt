@@ -7,7 +7,7 @@ use Rattle.reading.proofs.cursor.Cursor.+inner_term.Goals as goal
 
 pub returns-in_err-item : goal.returns-in_err-item
 returns-in_err-item t c =
-    let p = err_from_is_err_and c.from-residual.result c.from-residual.ensures.1 in
+    let p = err_from_is_err_and c.from_residual.result c.from_residual.ensures.1 in
     rw (p.1, p.2) (record { same = refl; on = omega arith; reads = kind_stopped (span c.args.self.now c.args.start) c.args.self.now.at c.args.self.now.bytes.now c.in_err-item.field-0.0 c.in_err-item.ensures })
 
 pub returns-in-Nothing : goal.returns-in-Nothing
@@ -31,28 +31,28 @@ returns-in-Number t c =
       reads = number_case w s.at bs here c.inner_number.result e c.in-Number.ensures c.inner_number.ensures.reads;
     }
 
-pub returns-in_err-inner_term : goal.returns-in_err-inner_term
-returns-in_err-inner_term t c =
+pub returns-in_err-inner_term-in-TwoTerms : goal.returns-in_err-inner_term-in-TwoTerms
+returns-in_err-inner_term-in-TwoTerms t c =
     let s = c.args.self.now in
     let w = span s c.args.start in
     let bs = s.bytes.now in
     let here = at_kind w s.at bs c.in_ok-item.ensures in
-    let first = c.in_err-inner_term.ensures in
-    let p = err_from_is_err_and c.from-residual-in_err-inner_term.result c.from-residual-in_err-inner_term.ensures.1 in
+    let first = c.in_err-inner_term-in-TwoTerms.ensures in
+    let p = err_from_is_err_and c.from_residual-in_err-inner_term-in-TwoTerms.result c.from_residual-in_err-inner_term-in-TwoTerms.ensures.1 in
     rw (p.1, p.2) (record { same = first.same; on = omega (arith, first.on); reads = pair_stopped w s.at bs here _ _ c.in-TwoTerms.ensures first.reads })
 
-pub returns-in_err-inner_term-2 : goal.returns-in_err-inner_term-2
-returns-in_err-inner_term-2 t c =
+pub returns-in_err-inner_term-in-TermAndNumber : goal.returns-in_err-inner_term-in-TermAndNumber
+returns-in_err-inner_term-in-TermAndNumber t c =
     let s = c.args.self.now in
     let w = span s c.args.start in
     let bs = s.bytes.now in
     let here = at_kind w s.at bs c.in_ok-item.ensures in
-    let first = c.in_err-inner_term-2.ensures in
-    let p = err_from_is_err_and c.from-residual-in_err-inner_term-2.result c.from-residual-in_err-inner_term-2.ensures.1 in
+    let first = c.in_err-inner_term-in-TermAndNumber.ensures in
+    let p = err_from_is_err_and c.from_residual-in_err-inner_term-in-TermAndNumber.result c.from_residual-in_err-inner_term-in-TermAndNumber.ensures.1 in
     rw (p.1, p.2) (record { same = first.same; on = omega (arith, first.on); reads = role_stopped w s.at bs here _ _ c.in-TermAndNumber.ensures first.reads })
 
-pub returns-in_ok-inner_term : goal.returns-in_ok-inner_term
-returns-in_ok-inner_term t c =
+pub returns-in_ok-inner_term-in-TwoTerms : goal.returns-in_ok-inner_term-in-TwoTerms
+returns-in_ok-inner_term-in-TwoTerms t c =
     let s = c.args.self.now in
     let m = c.inner_term.new.self in
     let e = c.inner_term-in-TwoTerms.new.self in
@@ -60,7 +60,7 @@ returns-in_ok-inner_term t c =
     let w = span s c.args.start in
     let bs = s.bytes.now in
     let here = at_kind w s.at bs c.in_ok-item.ensures in
-    let first = c.in_ok-inner_term.ensures in
+    let first = c.in_ok-inner_term-in-TwoTerms.ensures in
     let second = c.inner_term-in-TwoTerms.ensures in
     record {
       same = second.same ∙ first.same;
@@ -70,8 +70,8 @@ returns-in_ok-inner_term t c =
           (subst (λ l. Passes (read_inner (length l - c.args.start) (rest m)) r e) first.same second.reads);
     }
 
-pub returns-in_ok-inner_term-2 : goal.returns-in_ok-inner_term-2
-returns-in_ok-inner_term-2 t c =
+pub returns-in_ok-inner_term-in-TermAndNumber : goal.returns-in_ok-inner_term-in-TermAndNumber
+returns-in_ok-inner_term-in-TermAndNumber t c =
     let s = c.args.self.now in
     let m = c.inner_term-in-TermAndNumber.new.self in
     let e = c.inner_number-in-TermAndNumber.new.self in
@@ -79,7 +79,7 @@ returns-in_ok-inner_term-2 t c =
     let w = span s c.args.start in
     let bs = s.bytes.now in
     let here = at_kind w s.at bs c.in_ok-item.ensures in
-    let first = c.in_ok-inner_term-2.ensures in
+    let first = c.in_ok-inner_term-in-TermAndNumber.ensures in
     let second = c.inner_number-in-TermAndNumber.ensures in
     record {
       same = second.same ∙ first.same;

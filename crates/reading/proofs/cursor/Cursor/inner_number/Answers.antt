@@ -5,7 +5,7 @@ use Rattle.reading.proofs.cursor.Cursor.inner_number.Goals as goal
 
 pub returns-in_err-item : goal.returns-in_err-item
 returns-in_err-item c =
-    let p = err_from_is_err_and c.from-residual.result c.from-residual.ensures.1 in
+    let p = err_from_is_err_and c.from_residual.result c.from_residual.ensures.1 in
     rw (p.1, p.2) (record { same = refl; on = omega arith; reads = number_stopped _ c.args.self.now.at c.args.self.now.bytes.now _ c.in_err-item.ensures })
 
 pub returns : goal.returns

@@ -6,7 +6,7 @@ use Rattle.reading.proofs.cursor.Cursor.term.Goals as goal
 pub returns-in_err-inner_term : goal.returns-in_err-inner_term
 returns-in_err-inner_term c =
     let s = c.args.self.now in
-    let p = err_from_is_err_and c.from-residual.result c.from-residual.ensures.1 in
+    let p = err_from_is_err_and c.from_residual.result c.from_residual.ensures.1 in
     let e = c.in_err-inner_term.ensures in
     rw (p.1, p.2) (record { same = e.same; reads = outermost s.at s.bytes.now ∙ e.reads })
 
