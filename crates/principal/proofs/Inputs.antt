@@ -1,10 +1,9 @@
 -- An input that is to be one term.
-use Rattle.std.proofs.Common.{◌≡◌, ℕ, ◌<◌, List, [], ◌∷◌, ◌++◌, length, Ok, Err, sym, refl, ap, ◌∙◌, subst, append-nil, arith}
-use Rattle.reading.specs.declared.cursor.Row.{Row}
+use Rattle.std.proofs.Common.{◌≡◌, ℕ, ◌<◌, List, [], ◌∷◌, length, Ok, Err, sym, refl, ap, ◌∙◌, subst, append-nil, arith}
 use Rattle.reading.specs.declared.cursor.Row.TheVariants.{LeftOver}
 use Rattle.reading.specs.declared.refusal.ReadFault.{ReadFault}
 use Rattle.reading.specs.Numbers.{Bytes}
-use Rattle.reading.specs.Principal.{Principal, encode, Readable}
+use Rattle.reading.specs.Principal.{Principal, encode}
 use Rattle.reading.specs.Reading.{Outcome, took, stopped, alone, read_term}
 use Rattle.reading.specs.Refusals.{fault_at, answered}
 use Rattle.reading.proofs.Faults.{terms_are_read, rows_are_exact}

@@ -1,5 +1,5 @@
 -- The test for a voice decides it.
-use Rattle.std.proofs.Common.{◌≡◌, ℕ, true, eqb, sym, refl, subst, eq-eqb, eqb-true}
+use Rattle.std.proofs.Common.{◌≡◌, ℕ, true, sym, refl, subst, eq-eqb, eqb-true}
 use Rattle.std.proofs.lemmas.Bool.{false≢true}
 use Rattle.reading.specs.Principal.{Principal, channel, name, both, quoting, as_role, acting_for}
 use Rattle.principal.specs.Voices.{Voiced, itself, quotes, in_role, has_voice}

@@ -1,11 +1,10 @@
 -- A cursor's steps, on the bytes behind it.
-use Rattle.std.proofs.Common.{◌≡◌, ℕ, suc, ◌+◌, ◌-◌, ◌<◌, ◌≤◌, List, [], ◌∷◌, ◌++◌, length, get_or, drop, Some, None, Ok, Err, Option, Result, sym, refl, ap, ◌∙◌, subst, add-one, arith, drop-cons, le-ltb, lt-ltb, MatchResult}
+use Rattle.std.proofs.Common.{◌≡◌, ℕ, suc, ◌+◌, ◌-◌, ◌<◌, ◌≤◌, List, [], ◌∷◌, length, get_or, drop, Some, None, Ok, Err, Result, sym, refl, ap, ◌∙◌, add-one, arith, drop-cons, le-ltb, lt-ltb, MatchResult}
 use Rattle.std.proofs.lemmas.List.{length-drop, drop-drop}
 use Rattle.std.proofs.lemmas.Bool.{cond-true, cond-false}
 use Rattle.reading.specs.declared.cursor.Row.{Row}
 use Rattle.reading.specs.declared.cursor.Cursor.{Cursor}
 use Rattle.reading.specs.declared.cursor.Row.TheVariants.{CutShort, UnknownKind}
-use Rattle.reading.specs.declared.cursor.reads.Follows.{Follows}
 use Rattle.reading.specs.declared.cursor.reads.Follows.TheVariants.{Number, TwoTerms, TermAndNumber, Nothing}
 use Rattle.reading.specs.Numbers.{number}
 use Rattle.reading.specs.Principal.{Principal}

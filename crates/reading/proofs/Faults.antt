@@ -1,10 +1,10 @@
 -- What reading gives, read off the bytes: the term at their front, or the item that fails.
-use Rattle.std.proofs.Common.{◌≡◌, ℕ, zero, suc, ◌+◌, ◌-◌, ◌^◌, ◌<◌, ◌≤◌, List, [], ◌∷◌, ◌++◌, length, get_or, drop, sym, refl, ap, ◌∙◌, subst, append_assoc, append-nil, arith}
+use Rattle.std.proofs.Common.{◌≡◌, ℕ, zero, suc, ◌+◌, ◌-◌, ◌^◌, ◌<◌, ◌≤◌, List, [], ◌∷◌, ◌++◌, length, get_or, sym, refl, ap, ◌∙◌, subst, append_assoc, arith}
 use Rattle.std.proofs.lemmas.List.{length-append, get_or-append-add}
 use Rattle.reading.specs.declared.cursor.Row.{Row}
 use Rattle.reading.specs.declared.cursor.Row.TheVariants.{CutShort, UnknownKind, TooLong, LeftOver}
-use Rattle.reading.specs.Numbers.{spelled, number, Bytes}
-use Rattle.reading.specs.Principal.{Principal, encode, Fits, Readable}
+use Rattle.reading.specs.Numbers.{spelled, Bytes}
+use Rattle.reading.specs.Principal.{Principal, encode, Fits}
 use Rattle.reading.specs.Reading.{Outcome, took, stopped, then, inner_number, Parts, a_number, two_terms, term_and_number, no_kind, parts, read_parts, read_inner, read_term}
 use Rattle.reading.specs.Faults.{Item, kind_byte, four_bytes, size, Unfinished, nothing_yet, before_number, in_first, in_second, in_only, before_role, Fails, Stops}
 use Rattle.reading.specs.Laws.{ExactlyTermsAreRead, RowsAreExact}

@@ -1,15 +1,12 @@
 -- Exactly the terms of at most 60 bytes are read.
-use Rattle.std.proofs.Common.{◌≡◌, ℕ, zero, suc, ◌+◌, ◌-◌, ◌^◌, ◌<◌, ◌≤◌, List, [], ◌∷◌, ◌++◌, length, get_or, drop, sym, refl, ap, ◌∙◌, subst, append_assoc, append-nil, arith}
-use Rattle.std.proofs.lemmas.List.{length-append, get_or-drop, length-drop}
-use Rattle.reading.specs.declared.cursor.Row.{Row}
-use Rattle.reading.specs.declared.cursor.Row.TheVariants.{CutShort, UnknownKind, TooLong, LeftOver}
-use Rattle.reading.specs.Numbers.{spelled, number, Bytes}
-use Rattle.reading.specs.Principal.{Principal, channel, name, both, quoting, as_role, acting_for, encode, Fits, Readable}
-use Rattle.reading.specs.Reading.{Outcome, took, stopped, then, inner_number, Parts, a_number, two_terms, term_and_number, no_kind, parts, read_parts, read_inner, read_term}
-use Rattle.reading.specs.Laws.{ExactlyTermsAreRead, RowsAreExact}
-use Rattle.reading.proofs.Numbers.{number_spelled, number_small, spelled_number}
-use Rattle.reading.proofs.Outcomes.{Ends, ends_took, ends_stopped, took_ends, stopped_ends, ends_item, ends_then, item_open, item_long, item_short}
-use Rattle.reading.proofs.Steps.{Spells, spells, unrolled, opened}
+use Rattle.std.proofs.Common.{◌≡◌, ℕ, ◌+◌, ◌^◌, ◌<◌, ◌≤◌, List, ◌∷◌, ◌++◌, length, refl, ap, ◌∙◌, append_assoc, arith}
+use Rattle.std.proofs.lemmas.List.{length-append}
+use Rattle.reading.specs.Numbers.{spelled}
+use Rattle.reading.specs.Principal.{Principal, channel, name, both, quoting, as_role, acting_for, encode, Fits}
+use Rattle.reading.specs.Reading.{took, then, inner_number, two_terms, term_and_number, parts, read_parts, read_inner}
+use Rattle.reading.proofs.Numbers.{number_spelled}
+use Rattle.reading.proofs.Outcomes.{item_open}
+use Rattle.reading.proofs.Steps.{opened}
 
 -- a principal's term is read as it
 

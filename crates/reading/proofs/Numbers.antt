@@ -1,5 +1,5 @@
 -- A number and its bytes, at any width.
-use Rattle.std.proofs.Common.{◌≡◌, ℕ, zero, suc, ◌+◌, ◌-◌, ◌*◌, ◌/◌, ◌%◌, ◌^◌, ◌<◌, ◌≤◌, List, [], ◌∷◌, ◌++◌, length, get_or, take, drop, sym, refl, ap, ◌∙◌, subst, add-zero, mod-eq_of_lt, mul_assoc, mul_comm, add_comm, pow-suc, arith}
+use Rattle.std.proofs.Common.{◌≡◌, ℕ, zero, suc, ◌+◌, ◌*◌, ◌/◌, ◌%◌, ◌^◌, ◌<◌, ◌≤◌, List, [], ◌∷◌, ◌++◌, length, get_or, drop, sym, refl, ap, ◌∙◌, subst, add-zero, mod-eq_of_lt, mul_assoc, mul_comm, add_comm, pow-suc, arith}
 use native.Mathlib.Nat.{add-mul-div_right, mul-add-mod_self_right, mod-one}
 use lib.Arith.{mod-mul, digits_div, digits_lt}
 use Rattle.std.proofs.lemmas.List.{get_or-drop, drop-drop}

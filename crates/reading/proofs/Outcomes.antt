@@ -1,9 +1,9 @@
 -- What holds of an outcome, whichever it is.
-use Rattle.std.proofs.Common.{◌≡◌, ℕ, ◌+◌, ◌<◌, ◌≤◌, Bool, true, false, cond, ltb, List, length, Some, None, Option, refl, ap, ◌∙◌, subst, ltb-false, ltb-true, le-ltb, lt-ltb}
+use Rattle.std.proofs.Common.{◌≡◌, ℕ, ◌+◌, ◌<◌, ◌≤◌, Bool, true, false, cond, ltb, List, length, Option, refl, ap, ◌∙◌, subst, ltb-false, ltb-true, le-ltb, lt-ltb}
 use Rattle.std.proofs.lemmas.Bool.{cond-true, cond-false}
 use Rattle.reading.specs.declared.cursor.Row.{Row}
 use Rattle.reading.specs.declared.cursor.Row.TheVariants.{CutShort, TooLong}
-use Rattle.reading.specs.Reading.{Outcome, took, stopped, then, barred, unless, item}
+use Rattle.reading.specs.Reading.{Outcome, took, stopped, then, unless, item}
 
 -- P holds of what was read and what follows it, or Q of the row and what was left
 unfoldable pub Ends : {A : Type 0} (P : A → List ℕ → Type 0) (Q : Row → ℕ → Type 0) → Outcome A → Type 0

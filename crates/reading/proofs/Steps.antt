@@ -1,10 +1,10 @@
 -- Reading a term, step by step.
-use Rattle.std.proofs.Common.{◌≡◌, ℕ, zero, suc, ◌+◌, ◌-◌, ◌^◌, ◌<◌, ◌≤◌, Bool, true, false, cond, eqb, ltb, List, [], ◌∷◌, ◌++◌, length, get_or, drop, Some, None, Option, sym, refl, ap, ◌∙◌, subst, arith, eqb-true}
+use Rattle.std.proofs.Common.{◌≡◌, ℕ, zero, suc, ◌+◌, ◌^◌, ◌<◌, ◌≤◌, Bool, true, false, cond, eqb, ltb, List, [], ◌∷◌, ◌++◌, length, get_or, drop, Some, Option, sym, refl, ap, ◌∙◌, arith, eqb-true}
 use Rattle.std.proofs.lemmas.List.{length-drop}
 use Rattle.reading.specs.declared.cursor.Row.{Row}
-use Rattle.reading.specs.declared.cursor.Row.TheVariants.{CutShort, UnknownKind, TooLong}
-use Rattle.reading.specs.Numbers.{spelled, number}
-use Rattle.reading.specs.Principal.{Principal, channel, name, both, quoting, as_role, acting_for, encode, Fits}
+use Rattle.reading.specs.declared.cursor.Row.TheVariants.{CutShort, TooLong}
+use Rattle.reading.specs.Numbers.{spelled}
+use Rattle.reading.specs.Principal.{Principal, both, quoting, acting_for, encode, Fits}
 use Rattle.reading.specs.Reading.{Outcome, took, stopped, then, unless, item, inner_number, Parts, a_number, two_terms, term_and_number, no_kind, parts, read_parts, read_within, read_inner}
 use Rattle.reading.proofs.Outcomes.{Ends, ends_took, ends_stopped, took_ends, ends_item, ends_then, item_open}
 

@@ -1,5 +1,5 @@
 -- Terms that were read.
-use Rattle.std.proofs.Common.{◌≡◌, ℕ, suc, ◌+◌, ◌-◌, ◌^◌, ◌<◌, ◌≤◌, Bool, true, false, leb, List, [], ◌∷◌, ◌++◌, length, get_or, take, drop, sym, refl, ap, ◌∙◌, subst, append-nil, arith, leb-false, leb-true}
+use Rattle.std.proofs.Common.{◌≡◌, ℕ, ◌+◌, ◌-◌, ◌^◌, ◌<◌, ◌≤◌, Bool, true, false, leb, List, [], ◌∷◌, ◌++◌, length, take, drop, sym, refl, ap, ◌∙◌, subst, append-nil, arith, leb-false, leb-true}
 use Rattle.std.proofs.lemmas.List.{length-append, length-drop, take_at, get_or-drop}
 use Rattle.reading.specs.declared.cursor.Row.{Row}
 use Rattle.reading.specs.declared.cursor.Row.TheVariants.{LeftOver}

@@ -3,7 +3,7 @@ use Rattle.std.specs.Prelude.{◌≡◌, ℕ, ◌+◌, ◌<◌, ◌≤◌, List,
 use Rattle.reading.specs.declared.cursor.Row.{Row}
 use Rattle.reading.specs.declared.cursor.Row.TheVariants.{CutShort, UnknownKind, TooLong, LeftOver}
 use Rattle.reading.specs.Principal.{Principal, encode, Fits}
-use Rattle.reading.specs.Reading.{Parts, a_number, two_terms, term_and_number, no_kind, parts}
+use Rattle.reading.specs.Reading.{a_number, two_terms, term_and_number, no_kind, parts}
 
 -- what a term is made of, byte by byte
 pub data Item : Type 0 where

@@ -1,5 +1,5 @@
 -- Principals, and the bytes that stand for them.
-use Rattle.std.specs.Prelude.{ℕ, ◌^◌, ◌<◌, ◌≤◌, List, [], ◌∷◌, ◌++◌, length}
+use Rattle.std.specs.Prelude.{ℕ, ◌^◌, ◌<◌, ◌≤◌, List, ◌∷◌, ◌++◌, length}
 use Rattle.reading.specs.Numbers.{spelled}
 
 pub data Principal : Type 0 where

@@ -1,4 +1,4 @@
-use Rattle.std.proofs.Common.{◌≡◌, arith}
+use Rattle.std.proofs.Common.{arith}
 use Rattle.principal.specs.Terms.{means}
 use Rattle.principal.proofs.Shapes.{kind_byte, kinds}
 use Rattle.principal.proofs.term.Term.kind.Goals as goal

@@ -1,4 +1,4 @@
-use Rattle.std.proofs.Common.{◌≡◌, ◌<◌, sym, ap, ◌∙◌, arith}
+use Rattle.std.proofs.Common.{sym, ◌∙◌, arith}
 use Rattle.reading.specs.Numbers.{spelled}
 use Rattle.reading.specs.Principal.{as_role}
 use Rattle.principal.specs.Terms.{means}

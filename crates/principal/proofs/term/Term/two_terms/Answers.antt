@@ -1,6 +1,5 @@
-use Rattle.std.proofs.Common.{◌≡◌, ◌<◌, length, sym, ap, ◌∙◌, subst, arith}
+use Rattle.std.proofs.Common.{sym, ◌∙◌, subst, arith}
 use Rattle.reading.specs.Principal.{encode}
-use Rattle.reading.specs.Reading.{took}
 use Rattle.principal.specs.Shapes.{OfTwoTerms}
 use Rattle.principal.specs.Terms.{means}
 use Rattle.reading.proofs.Terms.{front_is, last_is, one_outcome, never_both, as_long}
