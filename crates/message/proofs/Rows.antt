@@ -1,13 +1,13 @@
 -- What reading a message gives, read off the bytes: its fields, or what fails.
-use Rattle.std.proofs.Common.{◌≡◌, ℕ, suc, ◌+◌, ◌<◌, ◌≤◌, Bool, true, false, cond, eqb, ltb, ◌⊎◌, List, [], ◌∷◌, ◌++◌, length, get_or, drop, Some, None, Ok, Option, sym, refl, ap, ◌∙◌, subst, inl, inr, append_assoc, append-nil, zero-add, arith, ltb-false, ltb-true, lt-ltb, eqb-true}
+use Rattle.std.proofs.Common.{◌≡◌, ℕ, suc, ◌<◌, ◌≤◌, true, false, cond, eqb, ltb, List, [], ◌∷◌, ◌++◌, length, drop, Some, None, Ok, Option, sym, refl, ap, ◌∙◌, subst, inl, inr, append_assoc, append-nil, zero-add, arith, ltb-false, ltb-true, lt-ltb, eqb-true}
 use Rattle.std.proofs.lemmas.Bool.{cond-true}
 use Rattle.reading.specs.declared.cursor.Row.{Row}
-use Rattle.reading.specs.declared.cursor.Row.TheVariants.{CutShort, UnknownKind, LeftOver}
+use Rattle.reading.specs.declared.cursor.Row.TheVariants.{CutShort, LeftOver}
 use Rattle.reading.specs.Numbers.{spelled, Bytes}
 use Rattle.reading.specs.Numbers as digits
-use Rattle.reading.specs.Principal.{Principal, encode, Readable}
+use Rattle.reading.specs.Principal.{Principal}
 use Rattle.reading.specs.Reading.{Outcome, took, stopped, then, at_end, alone, read_number, read_term}
-use Rattle.reading.specs.Faults.{Item, Unfinished, Fails, Stops}
+use Rattle.reading.specs.Faults.{Fails, Stops}
 use Rattle.reading.proofs.Numbers.{number_small, spelled_number}
 use Rattle.reading.proofs.Outcomes.{Ends, ends_took, ends_stopped, took_ends, stopped_ends, ends_then}
 use Rattle.reading.proofs.Faults.{terms_are_read, rows_are_exact, more_bytes}

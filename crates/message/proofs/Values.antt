@@ -1,15 +1,11 @@
 -- Values that are written are read back, and what is read was written.
-use Rattle.std.proofs.Common.{◌≡◌, ℕ, ◌+◌, ◌-◌, ◌^◌, ◌<◌, ◌≤◌, Bool, true, false, cond, ltb, List, [], ◌∷◌, ◌++◌, length, get_or, drop, sym, refl, ap, ◌∙◌, subst, append_assoc, append-nil, zero-add, arith, ltb-false, ltb-true, le-ltb, lt-ltb}
-use Rattle.std.proofs.lemmas.List.{length-append, drop_at, get_or-append-add}
-use Rattle.std.proofs.lemmas.Bool.{cond-true, cond-false}
-use Rattle.reading.specs.declared.cursor.Row.{Row}
-use Rattle.reading.specs.declared.cursor.Row.TheVariants.{CutShort}
-use Rattle.reading.specs.Numbers.{spelled, Bytes}
-use Rattle.reading.specs.Principal.{Principal, encode, Readable}
-use Rattle.reading.specs.Reading.{Outcome, took, stopped, then, alone, read_number, read_term}
-use Rattle.reading.proofs.Numbers.{length-spelled, number_spelled, number_small, spelled_number}
-use Rattle.reading.proofs.Outcomes.{Ends, ends_took, ends_stopped, ends_then}
-use Rattle.reading.proofs.Faults.{terms_are_read, rows_are_exact, more_bytes}
+use Rattle.std.proofs.Common.{◌≡◌, ℕ, ◌^◌, ◌<◌, List, [], ◌∷◌, ◌++◌, length, refl, ap, ◌∙◌, append_assoc, arith, le-ltb}
+use Rattle.std.proofs.lemmas.List.{length-append, drop_at}
+use Rattle.std.proofs.lemmas.Bool.{cond-false}
+use Rattle.reading.specs.Numbers.{spelled}
+use Rattle.reading.specs.Principal.{encode}
+use Rattle.reading.specs.Reading.{Outcome, took, stopped, then, alone, read_number}
+use Rattle.reading.proofs.Numbers.{length-spelled, number_spelled}
 use Rattle.reading.proofs.Terms.{front_is}
 use Rattle.message.specs.Messages.{Content}
 use Rattle.message.specs.Fields.{Field, number, term, Value, Values, ValueFits, ValuesFit, write_value, write_values, read_value, read_values}

@@ -1,5 +1,5 @@
 -- The three kinds of message, their bytes, and what reading them gives, for any bytes.
-use Rattle.std.specs.Prelude.{ℕ, cond, List, [], ◌∷◌, ◌++◌, length, Some, None, Option, Result, ◌==◌}
+use Rattle.std.specs.Prelude.{ℕ, cond, List, [], ◌∷◌, length, Some, None, Option, Result, ◌==◌}
 use Rattle.reading.specs.declared.cursor.Row.TheVariants.{CutShort, UnknownKind}
 use Rattle.reading.specs.declared.refusal.ReadFault.{ReadFault}
 use Rattle.reading.specs.Principal.{Principal}

@@ -3,7 +3,7 @@ use Rattle.std.proofs.Common.{◌≡◌, ℕ, ◌<◌, Bool, true, false, cond, 
 use Rattle.std.proofs.lemmas.Bool.{eqb-true, eqb-false, ne_eqb}
 use Rattle.std.proofs.lemmas.List.{length-append, append-nil, nil_from_length, get_or_append_left, get_or_at}
 use Rattle.std.proofs.ByRecursion.{All-from_get_or}
-use Rattle.std.specs.List.{AllByRecursion as All}
+use Rattle.std.specs.List.{AllByRecursion}
 use Rattle.script.specs.Split.{with_first, split, FirstEnds, join, NoSpace, PartsMakeTheLine, OnlyThePartsDo}
 
 -- what splitting one byte more gives, as it is a space or not
@@ -29,12 +29,12 @@ join-split : (cs : List ℕ) → join (split cs) ≡ cs
 join-split [] = refl
 join-split (c ∷ cs) = join_more c (eqb c 32) (split cs) refl (split_some cs) ∙ ap (λ l. c ∷ l) (join-split cs)
 
-no_space_more : (c : ℕ) (space : Bool) (parts : List (List ℕ)) → eqb c 32 ≡ space → All NoSpace parts → All NoSpace (split_more c space parts)
+no_space_more : (c : ℕ) (space : Bool) (parts : List (List ℕ)) → eqb c 32 ≡ space → AllByRecursion NoSpace parts → AllByRecursion NoSpace (split_more c space parts)
 no_space_more c true parts e h = (tt, h)
 no_space_more c false [] e h = tt
 no_space_more c false (part ∷ parts) e h = ((eqb-false c 32 e, h.0), h.1)
 
-no_space_split : (cs : List ℕ) → All NoSpace (split cs)
+no_space_split : (cs : List ℕ) → AllByRecursion NoSpace (split cs)
 no_space_split [] = (tt, tt)
 no_space_split (c ∷ cs) = no_space_more c (eqb c 32) (split cs) refl (no_space_split cs)
 

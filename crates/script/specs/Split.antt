@@ -1,6 +1,6 @@
 -- The parts of a line between spaces.
 use Rattle.std.specs.Prelude.{◌≡◌, ℕ, ◌<◌, ◌≤◌, cond, List, [], ◌∷◌, ◌++◌, length, ◌==◌, ◌≢◌, slice_index}
-use Rattle.std.specs.List.{AllByRecursion as All}
+use Rattle.std.specs.List.{AllByRecursion}
 
 -- with c before the first part
 abbrev pub with_first : ℕ → List (List ℕ) → List (List ℕ)
@@ -24,12 +24,12 @@ join (part ∷ []) = part
 join (part ∷ next ∷ parts) = part ++ 32 ∷ join (next ∷ parts)
 
 abbrev pub NoSpace : List ℕ → Type 0
-NoSpace cs = All (λ c. c ≢ 32) cs
+NoSpace cs = AllByRecursion (λ c. c ≢ 32) cs
 
 -- the parts of a line make the line again, and none holds a space
 abbrev pub PartsMakeTheLine : Type 0
-PartsMakeTheLine = (cs : List ℕ) → (join (split cs) ≡ cs) × All NoSpace (split cs)
+PartsMakeTheLine = (cs : List ℕ) → (join (split cs) ≡ cs) × AllByRecursion NoSpace (split cs)
 
 -- and no other parts do
 abbrev pub OnlyThePartsDo : Type 0
-OnlyThePartsDo = (parts : List (List ℕ)) → 0 < length parts → All NoSpace parts → split (join parts) ≡ parts
+OnlyThePartsDo = (parts : List (List ℕ)) → 0 < length parts → AllByRecursion NoSpace parts → split (join parts) ≡ parts

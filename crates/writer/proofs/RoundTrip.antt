@@ -1,18 +1,18 @@
 -- Writing and reading undo each other.
-use Rattle.std.proofs.Common.{◌≡◌, ℕ, suc, ◌+◌, ◌<◌, ◌≤◌, Bool, true, false, cond, ltb, List, [], ◌∷◌, ◌++◌, length, take, drop, Some, Ok, Err, Result, sym, refl, ap, ◌∙◌, subst, append-nil, arith, ltb-false, ltb-true, le-ltb}
-use Rattle.std.proofs.lemmas.Bool.{cond-true, cond-false}
+use Rattle.std.proofs.Common.{◌≡◌, ℕ, suc, true, false, cond, ltb, List, [], ◌∷◌, ◌++◌, length, take, drop, Some, Ok, Err, Result, sym, refl, ap, ◌∙◌, subst, arith, le-ltb}
+use Rattle.std.proofs.lemmas.Bool.{cond-false}
 use Rattle.std.proofs.lemmas.List.{take_at}
 use Rattle.reading.specs.declared.refusal.ReadFault.{ReadFault}
 use Rattle.reading.specs.declared.refusal.ReadFault.TheVariants.{NoRoom}
 use Rattle.reading.specs.Numbers.{Bytes}
 use Rattle.reading.specs.Principal.{Principal, encode, Readable}
-use Rattle.reading.specs.Reading.{Outcome, took, stopped, then, at_end, alone, read_term}
+use Rattle.reading.specs.Reading.{alone}
 use Rattle.reading.specs.Refusals.{answered}
 use Rattle.principal.proofs.Inputs.{one_term}
 use Rattle.reading.proofs.Terms.{last_is}
 use Rattle.principal.specs.Terms.{read_input}
-use Rattle.message.specs.Fields.{Field, number, term, Value, Values, ValuesFit}
-use Rattle.message.specs.Messages.{Content, statement, strike, request, Kind, statements, strikes, requests, kind_byte, layout, kind, values, content, encode_message, FitsMessage, named, any_kind, read_message}
+use Rattle.message.specs.Fields.{Field, number, term, Values, ValuesFit}
+use Rattle.message.specs.Messages.{Kind, statements, strikes, requests, kind_byte, layout, kind, values, content, encode_message, FitsMessage, named, any_kind}
 use Rattle.writer.specs.Writing.{Givens, and_then, check, drafted, laid_answer, write_answer, buffer_after}
 use Rattle.writer.specs.RoundTrip.{GivensFit, givens, WrittenMessagesReadBack, ReadMessagesWriteBack}
 use Rattle.message.proofs.Rows.{message_reads, messages_are_read, encoded, decoded}

@@ -1,4 +1,4 @@
-use Rattle.std.proofs.Common.{◌≡◌, ℕ, ◌+◌, List, [], length, get_or, take, sym, ap, arith, le-leb}
+use Rattle.std.proofs.Common.{length, get_or, take, sym, ap, arith, le-leb}
 use borrow.Author.Tests.{lt-leb}
 use Rattle.std.proofs.lemmas.List.{length-append, take_all}
 use Rattle.writer.specs.Writing.{joined}

@@ -1,17 +1,12 @@
-use Rattle.std.proofs.Common.{◌≡◌, ℕ, ◌+◌, ◌-◌, ◌<◌, ◌≤◌, List, [], ◌++◌, length, get_or, take, drop, sym, refl, ap, ◌∙◌, subst, arith}
-use Rattle.std.proofs.lemmas.List.{length-append, take_all}
+use Rattle.std.proofs.Common.{◌≡◌, ◌+◌, ◌-◌, ◌++◌, length, get_or, take, drop, sym, ap, ◌∙◌, arith}
+use Rattle.std.proofs.lemmas.List.{length-append}
 use Rattle.writer.specs.Writing.{joined}
 use Rattle.writer.proofs.Parts.{blank, joined_more, joined_within, put_next}
 use Rattle.writer.proofs.lay.Goals as goal
 
-pub overflow-add-end : goal.overflow-add-end
+pub slice_bounds-copy_from_slice-end : goal.slice_bounds-copy_from_slice-end
 unfolding blank
-overflow-add-end c =
-    omega (arith, joined_within c.args.parts.now c.loop-part.part-index blank c.loop-part-test.true, c.loop-part.invariant.0, c.requires, c.well-formed.0.0)
-
-pub slice-bounds-copy_from_slice-end : goal.slice-bounds-copy_from_slice-end
-unfolding blank
-slice-bounds-copy_from_slice-end c =
+slice_bounds-copy_from_slice-end c =
     omega (arith, joined_within c.args.parts.now c.loop-part.part-index blank c.loop-part-test.true, c.loop-part.invariant.0, c.loop-part.auto.out, c.requires)
 
 pub loop-part-preserved : goal.loop-part-preserved
@@ -25,11 +20,3 @@ loop-part-preserved c =
     let put =
     put_next c.loop-part.at (c.loop-part.at + length part - c.loop-part.at) part c.copy_from_slice.new.self c.loop-part.out (joined (take i ps)) c.args.out.now c.copy_from_slice.ensures.after (omega arith) (sym before.0) before.1 in
     (omega (arith, ap length more, length-append (joined (take i ps)) part, before.0), put ∙ ap (λ l. l ++ drop (c.loop-part.at + length part) c.args.out.now) (sym more))
-
-pub returns : goal.returns
-returns c =
-    let ps = c.args.parts.now in
-    let i = c.loop-part.part-index in
-    let all : joined (take i ps) ≡ joined ps = ap joined (take_all i ps c.loop-part-test.false) in
-    let at = c.loop-part.invariant.0 ∙ ap length all in
-    record { end = at; laid = c.loop-part.invariant.1 ∙ (λ j. all j ++ drop (at j) c.args.out.now) }

@@ -1,4 +1,4 @@
-use Rattle.std.proofs.Common.{◌≡◌, [], ◌∷◌, length, Ok, Err, sym, refl, ap, ◌∙◌}
+use Rattle.std.proofs.Common.{[], ◌∷◌, length, Err, sym, refl, ap, ◌∙◌}
 use Rattle.reading.specs.Refusals.{fault_at}
 use Rattle.message.specs.Messages.{all_fields, strikes, any_kind}
 use Rattle.message.proofs.Readers.{told}
