@@ -1,5 +1,5 @@
 -- What the exports tell, in numbers.
-use Rattle.std.specs.Prelude.{◌≡◌, ℕ, ◌+◌, List, length, Ok, Err, Result}
+use Rattle.std.specs.Prelude.{◌≡◌, ℕ, ◌+◌, length, Ok, Err, Result}
 use Rattle.reading.specs.declared.refusal.Layer.{Layer}
 use Rattle.reading.specs.declared.refusal.Layer.TheVariants.{Reading, Seal, Guard, Journal}
 use Rattle.reading.specs.declared.refusal.Refusal.{Refusal}

@@ -133,11 +133,11 @@ impl<'a> Arguments<'a> {
 
     fn write(&mut self) -> Result<Call, Fault> {
         let name = self.word()?;
-        if name == b"statement" {
+        if name == b"statement".as_slice() {
             Ok(Call::WriteStatement(self.statement()?))
-        } else if name == b"strike" {
+        } else if name == b"strike".as_slice() {
             Ok(Call::WriteStrike(self.four_bytes()?, self.room()?))
-        } else if name == b"request" {
+        } else if name == b"request".as_slice() {
             Ok(Call::WriteRequest(self.request()?))
         } else {
             Err(Fault::Bad)
@@ -146,13 +146,13 @@ impl<'a> Arguments<'a> {
 
     fn named(&mut self) -> Result<Call, Fault> {
         let name = self.word()?;
-        if name == b"term" {
+        if name == b"term".as_slice() {
             Ok(Call::Term(self.bytes()?))
-        } else if name == b"message" {
+        } else if name == b"message".as_slice() {
             Ok(Call::Message(self.bytes()?))
-        } else if name == b"show" {
+        } else if name == b"show".as_slice() {
             Ok(Call::Show(self.bytes()?))
-        } else if name == b"write" {
+        } else if name == b"write".as_slice() {
             self.write()
         } else {
             Err(Fault::Bad)
