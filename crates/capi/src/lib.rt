@@ -1,30 +1,31 @@
 // The calls that a C program makes: numbers and byte ranges only.
 #![tactic(auto)]
 
-ghost use Rattle.std.specs.Prelude.{◌≡◌, ◌≤◌};
+ghost use Rattle.std.specs.Prelude.{◌≡◌, ◌≤◌, MatchResult};
 ghost use Rattle.reading.specs.Refusals.{refused};
-ghost use Rattle.message.specs.Messages.{strike, read_message, any_kind, statements, strikes, requests};
+ghost use Rattle.principal.specs.Terms.{means};
+ghost use Rattle.message.specs.Messages.{read_message, any_kind, statements, strikes, requests};
+ghost use Rattle.message.specs.Said.{said};
 ghost use Rattle.writer.specs.Writing.{drafted, write_answer, buffer_after};
-ghost use Rattle.capi.specs.Calls.{range, size, told, layer_told, place_told, ReadTold, WrittenTold};
-ghost use Rattle.principal.specs.Terms.{Sound, means};
-ghost use Rattle.message.specs.Said.{stated, requested, SoundStatement, SoundRequest};
+ghost use Rattle.capi.specs.Calls.{range, size, told, place_told, ReadTold, WrittenTold};
 
-use message::{Message, Request, Statement};
+use message::kind::Kind;
+use message::{Message, Request, Statement, Strike};
 use principal::term::Term;
-use reading::refusal::{Layer, ReadFault};
-use writer::{write_request, write_statement, write_strike};
+use reading::refusal::{ReadFault, Refusal};
+use writer::write;
 
-// A part of the message: where it starts, and how long it is.
+// A part of the message: where it starts, and how long it is. C takes no slice in a struct.
 #[repr(C)]
-#[derive(Clone, Copy)]
+#[derive(Clone, Copy, Default)]
 pub struct GateRange {
     pub start: usize,
     pub len: usize,
 }
 
-// A message that was read. Fields that its kind does not have are 0.
+// A message that was read. Fields that its kind does not have are 0. C takes the kind as a number.
 #[repr(C)]
-#[derive(Clone, Copy)]
+#[derive(Clone, Copy, Default)]
 pub struct GateMessage {
     pub kind: u32,
     pub serial: u32,
@@ -38,7 +39,8 @@ pub struct GateMessage {
     pub right: GateRange,
 }
 
-// Why a call was refused: the layer is 1 for reading, 2 for the seal, 3 for the guard and 4 for the journal.
+// Why a call was refused: the layer is 1 for reading, 2 for the seal, 3 for the guard and 4 for the journal. C takes the
+// layer and the number as numbers.
 #[repr(C)]
 #[derive(Clone, Copy)]
 pub struct GateRefusal {
@@ -49,31 +51,41 @@ pub struct GateRefusal {
     pub len: usize,
 }
 
-fn layer_code(layer: Layer) -> u32
-    ensures { result ≡ layer_told layer }
-{
-    match layer {
-        Layer::Reading => 1,
-        Layer::Seal => 2,
-        Layer::Guard => 3,
-        Layer::Journal => 4,
+impl From<ReadFault> for GateRefusal {
+    ghost from_gives = { λ fault refusal. refusal ≡ place_told fault };
+
+    fn from(fault: ReadFault) -> GateRefusal {
+        let told = Refusal::from(fault);
+        GateRefusal {
+            layer: told.layer as u32,
+            number: u32::from(told.number),
+            input: told.place.input,
+            start: told.place.start,
+            len: told.place.len,
+        }
     }
 }
 
-// Tells the refusal, and answers its number.
+// Tells the refusal, and answers its number: C takes 0 for success and the number otherwise.
 fn refuse(fault: ReadFault, refusal: &mut GateRefusal) -> u32
     ensures number { result ≡ (refused fault).number }
     ensures place { refusal.new ≡ place_told fault }
 {
-    let told = fault.refusal();
-    *refusal = GateRefusal {
-        layer: layer_code(told.layer),
-        number: u32::from(told.number),
-        input: told.place.input,
-        start: told.place.start,
-        len: told.place.len,
-    };
-    u32::from(told.number)
+    *refusal = GateRefusal::from(fault);
+    refusal.number
+}
+
+// Tells the answer or the refusal, and leaves the other as it was.
+fn tell<T: Copy>(answer: Result<T, ReadFault>, told: &mut T, refusal: &mut GateRefusal) -> u32
+    ensures { MatchResult answer (λ x. (result ≡ 0) × (told.new ≡ x) × (refusal.new ≡ refusal.old)) (λ fault. (result ≡ (refused fault).number) × (told.new ≡ told.old) × (refusal.new ≡ place_told fault)) }
+{
+    match answer {
+        Ok(x) => {
+            *told = x;
+            0
+        }
+        Err(fault) => refuse(fault, refusal),
+    }
 }
 
 #[unsafe(no_mangle)]
@@ -86,15 +98,11 @@ pub extern "C" fn gate_write_strike(
     ensures answer { WrittenTold (write_answer (drafted strikes (serial, tt)) out.old) written.old written.new refusal.old refusal.new result }
     ensures buffer { out.new ≡ buffer_after (drafted strikes (serial, tt)) (write_answer (drafted strikes (serial, tt)) out.old) out.old }
 {
-    match write_strike(serial, out) {
-        Ok(n) => {
-            *written = n;
-            0
-        }
-        Err(fault) => refuse(fault, refusal),
-    }
+    let strike: Message<&[u8]> = Message::Strike(Strike { serial });
+    tell(write(&strike, out), written, refusal)
 }
 
+// The fields are parameters, as C passes them.
 #[unsafe(no_mangle)]
 pub extern "C" fn gate_write_request(
     number: u32,
@@ -108,15 +116,16 @@ pub extern "C" fn gate_write_request(
     ensures answer { WrittenTold (write_answer (drafted requests (number, (object, (operation, (sayer.now, tt))))) out.old) written.old written.new refusal.old refusal.new result }
     ensures buffer { out.new ≡ buffer_after (drafted requests (number, (object, (operation, (sayer.now, tt))))) (write_answer (drafted requests (number, (object, (operation, (sayer.now, tt))))) out.old) out.old }
 {
-    match write_request(number, object, operation, sayer, out) {
-        Ok(n) => {
-            *written = n;
-            0
-        }
-        Err(fault) => refuse(fault, refusal),
-    }
+    let request = Message::Request(Request {
+        number,
+        object,
+        operation,
+        sayer,
+    });
+    tell(write(&request, out), written, refusal)
 }
 
+// The fields are parameters, as C passes them.
 #[unsafe(no_mangle)]
 pub extern "C" fn gate_write_statement(
     serial: u32,
@@ -132,20 +141,19 @@ pub extern "C" fn gate_write_statement(
     ensures answer { WrittenTold (write_answer (drafted statements (serial, (from, (until, (sayer.now, (left.now, (right.now, tt))))))) out.old) written.old written.new refusal.old refusal.new result }
     ensures buffer { out.new ≡ buffer_after (drafted statements (serial, (from, (until, (sayer.now, (left.now, (right.now, tt))))))) (write_answer (drafted statements (serial, (from, (until, (sayer.now, (left.now, (right.now, tt))))))) out.old) out.old }
 {
-    match write_statement(serial, from, until, sayer, left, right, out) {
-        Ok(n) => {
-            *written = n;
-            0
-        }
-        Err(fault) => refuse(fault, refusal),
-    }
+    let statement = Message::Statement(Statement {
+        serial,
+        from,
+        until,
+        sayer,
+        left,
+        right,
+    });
+    tell(write(&statement, out), written, refusal)
 }
-
-const NO_RANGE: GateRange = GateRange { start: 0, len: 0 };
 
 // The range of a term that starts at `start`.
 fn range_of(start: usize, term: Term) -> GateRange
-    requires { Sound term }
     ensures { (result ≡ range start (size (means term.entry))) × (size (means term.entry) ≤ 60) }
 {
     GateRange {
@@ -154,59 +162,40 @@ fn range_of(start: usize, term: Term) -> GateRange
     }
 }
 
-fn of_statement(s: Statement) -> GateMessage
-    requires { SoundStatement s }
-    ensures { result ≡ told (stated s.entry) }
-{
-    let sayer = range_of(13, s.sayer);
-    let left = range_of(13 + sayer.len, s.left);
-    let right = range_of(13 + sayer.len + left.len, s.right);
-    GateMessage {
-        kind: 1,
-        serial: s.serial,
-        from: s.from,
-        until: s.until,
-        number: 0,
-        object: 0,
-        operation: 0,
-        sayer,
-        left,
-        right,
-    }
-}
+impl From<Message<Term<'_>>> for GateMessage {
+    ghost from_gives = { λ message m. m ≡ told (said message) };
 
-fn of_strike(serial: u32) -> GateMessage
-    ensures { result ≡ told (strike serial) }
-{
-    GateMessage {
-        kind: 2,
-        serial,
-        from: 0,
-        until: 0,
-        number: 0,
-        object: 0,
-        operation: 0,
-        sayer: NO_RANGE,
-        left: NO_RANGE,
-        right: NO_RANGE,
-    }
-}
-
-fn of_request(q: Request) -> GateMessage
-    requires { SoundRequest q }
-    ensures { result ≡ told (requested q.entry) }
-{
-    GateMessage {
-        kind: 3,
-        serial: 0,
-        from: 0,
-        until: 0,
-        number: q.number,
-        object: u32::from(q.object),
-        operation: u32::from(q.operation),
-        sayer: range_of(8, q.sayer),
-        left: NO_RANGE,
-        right: NO_RANGE,
+    fn from(message: Message<Term<'_>>) -> GateMessage {
+        match message {
+            Message::Statement(s) => {
+                let sayer = range_of(13, s.sayer);
+                let left = range_of(13 + sayer.len, s.left);
+                let right = range_of(13 + sayer.len + left.len, s.right);
+                GateMessage {
+                    kind: Kind::Statement as u32,
+                    serial: s.serial,
+                    from: s.from,
+                    until: s.until,
+                    sayer,
+                    left,
+                    right,
+                    ..GateMessage::default()
+                }
+            }
+            Message::Strike(s) => GateMessage {
+                kind: Kind::Strike as u32,
+                serial: s.serial,
+                ..GateMessage::default()
+            },
+            Message::Request(q) => GateMessage {
+                kind: Kind::Request as u32,
+                number: q.number,
+                object: u32::from(q.object),
+                operation: u32::from(q.operation),
+                sayer: range_of(8, q.sayer),
+                ..GateMessage::default()
+            },
+        }
     }
 }
 
@@ -214,19 +203,6 @@ fn of_request(q: Request) -> GateMessage
 pub extern "C" fn gate_read(bytes: &[u8], out: &mut GateMessage, refusal: &mut GateRefusal) -> u32
     ensures { ReadTold (read_message any_kind bytes.now) out.old out.new refusal.old refusal.new result }
 {
-    match Message::read(bytes) {
-        Ok(Message::Statement(s)) => {
-            *out = of_statement(s);
-            0
-        }
-        Ok(Message::Strike(s)) => {
-            *out = of_strike(s.serial);
-            0
-        }
-        Ok(Message::Request(q)) => {
-            *out = of_request(q);
-            0
-        }
-        Err(fault) => refuse(fault, refusal),
-    }
+    let answer = Message::read(bytes).map(|message| GateMessage::from(message));
+    tell(answer, out, refusal)
 }

@@ -1,0 +1,5 @@
+pub mod Calls
+pub mod Numerals
+pub mod Names
+pub mod Asked
+pub mod Laws

@@ -1,130 +1,93 @@
 // Carries out calls, and says what came of them.
-ghost use Rattle.message.specs.Said.{SoundStatement, SoundRequest};
+ghost use Rattle.std.specs.Prelude.{◌≡◌, Some, IfOk, string_bytes};
+ghost use Rattle.reading.specs.Refusals.{refused};
+ghost use Rattle.message.specs.Said.{said};
+ghost use Rattle.gate.specs.Answers.{refused_text, fields_text, answer_text};
 
-use commands::{Call, RequestFields, StatementFields};
-use message::{Message, Request, Statement};
-use phrase::text::Text;
+use commands::Call;
+use hex_words::Hex;
+use message::Message;
 use principal::term::Term;
-use reading::refusal::ReadFault;
+use reading::refusal::{Place, ReadFault, Refusal};
 use std::alloc::{AllocError, Global};
-use writer::{write_request, write_statement, write_strike};
+use std::fmt;
 
 // What the unwritten bytes of a buffer hold.
 const BLANK: u8 = 0xee;
 
-fn refused(fault: ReadFault, text: &mut Text) {
-    let told = fault.refusal();
-    text.push(b"refused ");
-    text.push(phrase::layer(told.layer));
-    text.push_number(u64::from(told.number));
-    text.push_number(u64::from(told.place.input));
-    text.push_number(told.place.start as u64);
-    text.push_number(told.place.len as u64)
-}
+// A fault by its numbers: layer, number and place.
+#[derive(Clone, Copy)]
+struct Refused(ReadFault);
 
-fn statement(s: Statement, text: &mut Text)
-    requires { SoundStatement s }
-{
-    text.push(b"statement");
-    text.push_number(u64::from(s.serial));
-    text.push_number(u64::from(s.from));
-    text.push_number(u64::from(s.until));
-    text.push_bytes(s.sayer.as_bytes());
-    text.push_bytes(s.left.as_bytes());
-    text.push_bytes(s.right.as_bytes())
-}
+impl fmt::Display for Refused {
+    ghost output = { λ r. Some (refused_text (refused r.0)) };
 
-fn strike(serial: u32, text: &mut Text) {
-    text.push(b"strike");
-    text.push_number(u64::from(serial))
-}
-
-fn request(q: Request, text: &mut Text)
-    requires { SoundRequest q }
-{
-    text.push(b"request");
-    text.push_number(u64::from(q.number));
-    text.push_number(u64::from(q.object));
-    text.push_number(u64::from(q.operation));
-    text.push_bytes(q.sayer.as_bytes())
-}
-
-fn message(bytes: &[u8], text: &mut Text) {
-    match Message::read(bytes) {
-        Ok(Message::Statement(s)) => statement(s, text),
-        Ok(Message::Strike(s)) => strike(s.serial, text),
-        Ok(Message::Request(q)) => request(q, text),
-        Err(fault) => refused(fault, text),
+    fn fmt<W: fmt::Write>(&self, f: &mut fmt::Formatter<W>) -> fmt::Result {
+        let Refusal {
+            layer,
+            number,
+            place,
+        } = Refusal::from(self.0);
+        let Place { input, start, len } = place;
+        write!(f, "refused {layer} {number} {input} {start} {len}")
     }
 }
 
-fn show(bytes: &[u8], text: &mut Text) {
-    match Message::read(bytes) {
-        Ok(m) => phrase::message(m, text),
-        Err(fault) => phrase::refusal(fault, text),
-    }
-}
+// A message by its fields.
+#[derive(Clone, Copy)]
+struct Fields<'a>(Message<Term<'a>>);
 
-fn term(bytes: &[u8], text: &mut Text) {
-    match Term::read(1, bytes) {
-        Ok(_) => text.push(b"ok"),
-        Err(fault) => refused(fault, text),
-    }
-}
+impl fmt::Display for Fields<'_> {
+    ghost output = { λ m. Some (fields_text (said m.0)) };
 
-fn written(answer: Result<usize, ReadFault>, buffer: &[u8], text: &mut Text) {
-    match answer {
-        Ok(length) => {
-            text.push(b"wrote");
-            text.push_number(length as u64);
-            text.push_bytes(buffer);
+    fn fmt<W: fmt::Write>(&self, f: &mut fmt::Formatter<W>) -> fmt::Result {
+        match self.0 {
+            Message::Statement(s) => write!(
+                f,
+                "statement {} {} {} {} {} {}",
+                s.serial,
+                s.from,
+                s.until,
+                Hex(s.sayer.as_bytes()),
+                Hex(s.left.as_bytes()),
+                Hex(s.right.as_bytes())
+            ),
+            Message::Strike(s) => write!(f, "strike {}", s.serial),
+            Message::Request(q) => write!(
+                f,
+                "request {} {} {} {}",
+                q.number,
+                q.object,
+                q.operation,
+                Hex(q.sayer.as_bytes())
+            ),
         }
-        Err(fault) => refused(fault, text),
     }
 }
 
-fn written_statement(s: &StatementFields, buffer: &mut [u8], text: &mut Text) {
-    let answer = write_statement(
-        s.serial,
-        s.from,
-        s.until,
-        s.sayer.as_slice(),
-        s.left.as_slice(),
-        s.right.as_slice(),
-        buffer,
-    );
-    written(answer, buffer, text);
-}
-
-fn written_strike(serial: u32, buffer: &mut [u8], text: &mut Text) {
-    let answer = write_strike(serial, buffer);
-    written(answer, buffer, text);
-}
-
-fn written_request(q: &RequestFields, buffer: &mut [u8], text: &mut Text) {
-    let answer = write_request(q.number, q.object, q.operation, q.sayer.as_slice(), buffer);
-    written(answer, buffer, text);
-}
-
-// A buffer of so many bytes.
-fn page(heap: Global, room: usize) -> Result<Vec<u8>, AllocError> {
-    vec![in heap; BLANK; room]
-}
-
-pub fn answer(heap: Global, call: &Call, text: &mut Text) -> Result<(), AllocError> {
+// What came of a call, in one line.
+pub fn answer(heap: Global, call: &Call) -> Result<String, AllocError>
+    ensures { IfOk result (λ line. string_bytes line ≡ answer_text call.now) }
+{
     match call {
-        Call::Term(bytes) => term(bytes.as_slice(), text),
-        Call::Message(bytes) => message(bytes.as_slice(), text),
-        Call::Show(bytes) => show(bytes.as_slice(), text),
-        Call::WriteStatement(s) => {
-            written_statement(s, page(heap, s.room)?.as_mut_slice(), text);
-        }
-        Call::WriteStrike(serial, room) => {
-            written_strike(*serial, page(heap, *room)?.as_mut_slice(), text);
-        }
-        Call::WriteRequest(q) => {
-            written_request(q, page(heap, q.room)?.as_mut_slice(), text);
+        Call::Term(bytes) => match Term::read(1, bytes.as_slice()) {
+            Ok(_) => format!(in heap; "ok"),
+            Err(fault) => format!(in heap; "{}", Refused(fault)),
+        },
+        Call::Message(bytes) => match Message::read(bytes.as_slice()) {
+            Ok(message) => format!(in heap; "{}", Fields(message)),
+            Err(fault) => format!(in heap; "{}", Refused(fault)),
+        },
+        Call::Show(bytes) => match Message::read(bytes.as_slice()) {
+            Ok(message) => format!(in heap; "{message}"),
+            Err(fault) => format!(in heap; "refused: {fault}"),
+        },
+        Call::Write { message, room } => {
+            let mut buffer = vec![in heap; BLANK; *room]?;
+            match writer::write(message, buffer.as_mut_slice()) {
+                Ok(length) => format!(in heap; "wrote {length} {}", Hex(buffer.as_slice())),
+                Err(fault) => format!(in heap; "{}", Refused(fault)),
+            }
         }
     }
-    Ok(())
 }

@@ -1,8 +1,12 @@
 -- Bytes and their hex.
-use Rattle.std.proofs.Common.{◌≡◌, ℕ, zero, suc, ◌+◌, ◌*◌, ◌/◌, ◌%◌, ◌<◌, List, [], ◌∷◌, ◌++◌, length, get_or, take, drop, sym, refl, ap, ◌∙◌, arith}
-use Rattle.std.proofs.lemmas.List.{length-append, append_assoc, append-nil, take_more, nil_from_length}
+use Rattle.std.proofs.Common.{◌≡◌, ℕ, zero, suc, ◌+◌, ◌-◌, ◌*◌, ◌/◌, ◌%◌, ◌^◌, ◌<◌, false, List, [], ◌∷◌, ◌++◌, length, get_or, take, drop, sym, refl, ap, ◌∙◌, arith}
+use Rattle.std.proofs.lemmas.List.{append_assoc, take_more, get_or-take, get_or-drop}
+use Rattle.std.specs.Simd.{first_chunks}
+use Rattle.std.proofs.lemmas.Fmt.{hex_byte}
+use Rattle.std.specs.Fmt.{padded_integral, format_spec, digits}
+use Rattle.std.proofs.lemmas.Grind.{common_steps}
 use Rattle.std.proofs.lemmas.Bool.Decides.{nat_tests}
-use Rattle.hex_words.specs.Spelling.{hex_digit, hex, spelled_bytes, Bytes, Spells, WordsTellBytesApart}
+use Rattle.hex_words.specs.Spelling.{hex_digit, hex, Bytes, Spells, SpellsNone, WordsTellBytesApart}
 
 length-hex : (bs : List ℕ) → length (hex bs) ≡ 2 * length bs
 length-hex [] = refl
@@ -13,14 +17,7 @@ hex-append [] ys = refl
 hex-append (x ∷ xs) ys = ap (λ l. hex_digit (x / 16) ∷ hex_digit (x % 16) ∷ l) (hex-append xs ys)
 
 pub bytes_push : (xs : List ℕ) (b : ℕ) → Bytes xs → b < 256 → Bytes (xs ++ b ∷ [])
-bytes_push [] b h small zero = small
-bytes_push [] b h small (suc i) = omega arith
-bytes_push (x ∷ xs) b h small zero = h 0
-bytes_push (x ∷ xs) b h small (suc i) = bytes_push xs b (λ k. h (suc k)) small i
-
-spelled_hex : (bs : List ℕ) → 0 < length bs → spelled_bytes bs ≡ hex bs
-spelled_hex [] h = absurd (omega arith)
-spelled_hex (b ∷ bs) h = refl
+bytes_push xs b h small i = grind (arith, common_steps, h i)
 
 -- a word that is not `-` is the hex of its bytes
 in_hex : (chars bs : List ℕ) → (chars ≡ 45 ∷ [] → ⊥) → Spells chars bs → hex bs ≡ chars
@@ -32,49 +29,45 @@ pub twice : (chars bs : List ℕ) → (chars ≡ 45 ∷ [] → ⊥) → Spells c
 twice chars [] other s = absurd (other (sym s.spelling))
 twice chars (b ∷ bs) other s = (sym (ap length s.spelling) ∙ length-hex (b ∷ bs), omega arith)
 
-pair_is : (xs : List ℕ) → length xs ≡ 2 → xs ≡ get_or xs 0 0 ∷ get_or xs 1 0 ∷ []
-pair_is [] h = absurd (omega arith)
-pair_is (a ∷ []) h = absurd (omega arith)
-pair_is (a ∷ b ∷ []) h = refl
-pair_is (a ∷ b ∷ c ∷ xs) h = absurd (omega arith)
+-- the digits of the byte at i
+digits_at : (bs : List ℕ) (i : ℕ) → i < length bs → (get_or (hex bs) (2 * i) 0 ≡ hex_digit (get_or bs i 0 / 16)) × (get_or (hex bs) (2 * i + 1) 0 ≡ hex_digit (get_or bs i 0 % 16))
+digits_at [] i h = absurd (omega arith)
+digits_at (b ∷ bs) zero h = (refl, refl)
+digits_at (b ∷ bs) (suc i) h = let more = digits_at bs i (omega arith) in grind (arith, more)
 
--- the two digits after the hex of xs spell a byte
-byte_after : (bs xs : List ℕ) (p q : ℕ) (more : List ℕ) → Bytes bs → hex bs ≡ hex xs ++ (p ∷ q ∷ more) → (b : ℕ) × (b < 256) × (hex (b ∷ []) ≡ p ∷ q ∷ [])
-byte_after [] [] p q more h e = absurd (omega (arith, ap length e))
-byte_after [] (x ∷ xs) p q more h e = absurd (omega (arith, ap length e))
-byte_after (b ∷ bs) [] p q more h e = (b, h 0, cc)
-byte_after (b ∷ bs) (x ∷ xs) p q more h e = byte_after bs xs p q more (λ i. h (suc i)) (ap (drop 2) e)
+-- where the digits of the pair at i stand in the word
+pair_at : (k i : ℕ) (chars : List ℕ) → i < k → let pair = get_or (first_chunks 2 k chars) i [] in (get_or pair 0 0 ≡ get_or chars (2 * i) 0) × (get_or pair 1 0 ≡ get_or chars (2 * i + 1) 0)
+pair_at zero i chars h = absurd (omega arith)
+pair_at (suc k) zero chars h = (get_or-take 2 chars 0 0 (omega arith), get_or-take 2 chars 1 0 (omega arith))
+pair_at (suc k) (suc i) chars h =
+    let more = pair_at k i (drop 2 chars) (omega arith) in
+    (more.0 ∙ get_or-drop 2 chars (2 * i) 0 ∙ ap (λ n. get_or chars n 0) (omega arith), more.1 ∙ get_or-drop 2 chars (2 * i + 1) 0 ∙ ap (λ n. get_or chars n 0) (omega arith))
 
--- Reading a word from the left: the hex of xs is read, `pair` comes next, and `more` after it.
--- No byte has that pair, so the word spells no bytes.
-pub no_byte : (chars xs rest pair more : List ℕ) → (chars ≡ 45 ∷ [] → ⊥) → hex xs ++ rest ≡ chars → rest ≡ pair ++ more → length pair ≡ 2 → ((b : ℕ) → b < 256 → hex (b ∷ []) ≡ get_or pair 0 0 ∷ get_or pair 1 0 ∷ [] → ⊥) → (bs : List ℕ) → Spells chars bs → ⊥
-no_byte chars xs rest pair more other e next two none bs s =
-    let whole : hex bs ≡ hex xs ++ (get_or pair 0 0 ∷ get_or pair 1 0 ∷ more) =
-    in_hex chars bs other s ∙ sym e ∙ ap (λ l. hex xs ++ l) (next ∙ ap (λ l. l ++ more) (pair_is pair two)) in
-    let found = byte_after bs xs (get_or pair 0 0) (get_or pair 1 0) more s.each_a_byte whole in
-    none found.0 found.1 found.2
+-- no byte has the digits of the pair at i, so the word spells no bytes
+pub no_byte : (chars : List ℕ) (pairs : List (List ℕ)) (i : ℕ) → (chars ≡ 45 ∷ [] → ⊥) → pairs ≡ first_chunks 2 (length chars / 2) chars → i < length chars / 2 → ((b : ℕ) → b < 256 → hex (b ∷ []) ≡ get_or (get_or pairs i []) 0 0 ∷ get_or (get_or pairs i []) 1 0 ∷ [] → ⊥) → SpellsNone chars
+no_byte chars pairs i other cut h none bs s =
+    let whole = in_hex chars bs other s in
+    let here = digits_at bs i (omega (arith, twice chars bs other s)) in
+    let pair = pair_at (length chars / 2) i chars h in
+    none (get_or bs i 0) (s.each_a_byte i) cc
 
--- b has that pair
-pub a_byte : (chars xs ys rest pair more : List ℕ) (b : ℕ) → hex xs ++ rest ≡ chars → rest ≡ pair ++ more → length pair ≡ 2 → hex (b ∷ []) ≡ get_or pair 0 0 ∷ get_or pair 1 0 ∷ [] → ys ≡ xs ++ b ∷ [] → hex ys ++ more ≡ chars
-a_byte chars xs ys rest pair more b e next two is made =
-    ap (λ l. hex l ++ more) made ∙ ap (λ l. l ++ more) (hex-append xs (b ∷ []) ∙ ap (λ l. hex xs ++ l) (is ∙ sym (pair_is pair two)))
-    ∙ append_assoc (hex xs) pair more ∙ ap (λ l. hex xs ++ l) (sym next) ∙ e
+-- the bytes of i pairs, and of one more
+pub a_byte : (chars bytes : List ℕ) (pairs : List (List ℕ)) (i b : ℕ) → pairs ≡ first_chunks 2 (length chars / 2) chars → i < length chars / 2 → hex bytes ≡ take (2 * i) chars → hex (b ∷ []) ≡ get_or (get_or pairs i []) 0 0 ∷ get_or (get_or pairs i []) 1 0 ∷ [] → hex (bytes ++ b ∷ []) ≡ take (2 * (i + 1)) chars
+a_byte chars bytes pairs i b cut h before is =
+    let pair = pair_at (length chars / 2) i chars h in
+    let high = take_more chars (2 * i) 0 (omega arith) in
+    let low = take_more chars (2 * i + 1) 0 (omega arith) in
+    let two : take (2 * (i + 1)) chars ≡ take (2 * i + 1 + 1) chars = ap (λ n. take n chars) (omega arith) in
+    let pushed = hex-append bytes (b ∷ []) in
+    let joined = append_assoc (take (2 * i) chars) (get_or chars (2 * i) 0 ∷ []) (get_or chars (2 * i + 1) 0 ∷ []) in
+    cc
 
--- no pair is left
-pub all_read : (chars xs rest : List ℕ) → hex xs ++ rest ≡ chars → length rest < 2 → length chars % 2 ≡ 0 → 0 < length chars → Bytes xs → Spells chars xs
-all_read chars xs rest e short even some h =
-    let long = sym (ap length e) ∙ length-append (hex xs) rest in
-    let none : rest ≡ [] = nil_from_length rest (omega (arith, long, length-hex xs)) in
-    let is : hex xs ≡ chars = sym (append-nil (hex xs)) ∙ ap (λ l. hex xs ++ l) (sym none) ∙ e in
-    record { spelling = spelled_hex xs (omega (arith, ap length is, length-hex xs)) ∙ is; each_a_byte = h }
-
--- one byte more after `old`
-pub pushed : (old xs ys zs bs : List ℕ) (i high low : ℕ) → i < length bs → xs ≡ old ++ hex (take i bs) → high ≡ hex_digit (get_or bs i 0 / 16) → low ≡ hex_digit (get_or bs i 0 % 16) → ys ≡ xs ++ high ∷ [] → zs ≡ ys ++ low ∷ [] → zs ≡ old ++ hex (take (i + 1) bs)
-pushed old xs ys zs bs i high low h before is_high is_low first second =
-    let b = get_or bs i 0 in
-    let two : zs ≡ xs ++ hex (b ∷ []) = second ∙ (λ k. first k ++ low ∷ []) ∙ append_assoc xs (high ∷ []) (low ∷ []) ∙ (λ k. xs ++ is_high k ∷ is_low k ∷ []) in
-    two ∙ ap (λ l. l ++ hex (b ∷ [])) before ∙ append_assoc old (hex (take i bs)) (hex (b ∷ []))
-    ∙ ap (λ l. old ++ l) (sym (hex-append (take i bs) (b ∷ [])) ∙ ap hex (sym (take_more bs i 0 h)))
+-- the hex of one byte more, whose digits are what `{:02x}` writes
+pub hex_more : (bs : List ℕ) (i : ℕ) → i < length bs → get_or bs i 0 < 256 → hex (take i bs) ++ padded_integral (format_spec 32 0 4 2 (2 ^ 64 - 1)) false [] (digits 16 false (get_or bs i 0)) ≡ hex (take (i + 1) bs)
+hex_more bs i h small =
+    ap (λ l. hex (take i bs) ++ l) (hex_byte false (get_or bs i 0) small)
+    ∙ sym (hex-append (take i bs) (get_or bs i 0 ∷ []))
+    ∙ ap hex (sym (take_more bs i 0 h))
 
 digits_apart : (d e : ℕ) → d < 16 → e < 16 → hex_digit d ≡ hex_digit e → d ≡ e
 digits_apart d e h k same = grind (arith, nat_tests)

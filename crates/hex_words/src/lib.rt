@@ -1,29 +1,13 @@
 // Bytes in lower-case hex, two digits a byte, and `-` for none.
 #![tactic(auto)]
 
-ghost use Rattle.std.specs.Prelude.{◌≡◌, ℕ, ◌<◌, [], ◌∷◌, ◌++◌, IfOk, Decides, MatchOption, OnOk, ◌≢◌};
+ghost use Rattle.std.specs.Prelude.{◌≡◌, ℕ, ◌<◌, [], ◌∷◌, length, IfOk, MatchOption, Some, ◌≢◌};
 ghost use Rattle.hex_words.specs.Spelling.{hex_digit, hex, spelled_bytes, Spells, SpellsNone};
 
 pub mod laws;
 
 use std::alloc::{AllocError, Global};
-
-fn is_dash(word: &[u8]) -> bool
-    ensures { Decides result (word.now ≡ 45 ∷ []) }
-{
-    word == b"-".as_slice()
-}
-
-fn digit_of(value: u8) -> u8
-    requires { value < 16 }
-    ensures { result ≡ hex_digit value }
-{
-    if value < 10 {
-        b'0' + value
-    } else {
-        b'a' + (value - 10)
-    }
-}
+use std::fmt;
 
 fn value_of(digit: u8) -> Option<u8>
     ensures { MatchOption result ((d : ℕ) → d < 16 → hex_digit d ≢ digit) (λ d. (d < 16) × (hex_digit d ≡ digit)) }
@@ -42,17 +26,19 @@ fn byte_of(high: u8, low: u8) -> Option<u8>
     Some(value_of(high)? * 16 + value_of(low)?)
 }
 
-// The bytes of a word that is not `-`.
+// The bytes of a word that is neither empty nor `-`: each two digits spell one.
+#[tactic(auto, using(crate::proofs::Spelling::a_byte, crate::proofs::Spelling::bytes_push))]
 fn from_digits(heap: Global, word: &[u8]) -> Result<Option<Vec<u8>>, AllocError>
-    requires { word.now ≢ 45 ∷ [] }
+    requires some { 0 < length word.now }
+    requires no_dash { word.now ≢ 45 ∷ [] }
     ensures { IfOk result (λ o. MatchOption o (SpellsNone word.now) (λ v. Spells word.now v.items)) }
 {
-    if word.is_empty() || word.len() % 2 != 0 {
+    let (pairs, []) = word.as_chunks::<2>() else {
         return Ok(None);
-    }
+    };
     let mut bytes = Vec::new(heap);
-    for pair in word.chunks_exact(2) {
-        let Some(byte) = byte_of(pair[0], pair[1]) else {
+    for &[high, low] in pairs {
+        let Some(byte) = byte_of(high, low) else {
             return Ok(None);
         };
         bytes.push(byte)?;
@@ -64,30 +50,28 @@ fn from_digits(heap: Global, word: &[u8]) -> Result<Option<Vec<u8>>, AllocError>
 pub fn unhex(heap: Global, word: &[u8]) -> Result<Option<Vec<u8>>, AllocError>
     ensures { IfOk result (λ o. MatchOption o (SpellsNone word.now) (λ v. Spells word.now v.items)) }
 {
-    if is_dash(word) {
-        return Ok(Some(Vec::new(heap)));
+    match word {
+        [] => Ok(None),
+        b"-" => Ok(Some(Vec::new(heap))),
+        _ => from_digits(heap, word),
     }
-    from_digits(heap, word)
 }
 
-// Appends two digits for each byte.
-fn push_digits(out: &mut Vec<u8>, bytes: &[u8]) -> Result<(), AllocError>
-    ensures { OnOk result (out.new.items ≡ out.old.items ++ hex bytes.now) }
-{
-    for byte in bytes {
-        out.push(digit_of(*byte / 16))?;
-        out.push(digit_of(*byte % 16))?;
-    }
-    Ok(())
-}
+// Bytes that print as the word that spells them.
+#[derive(Clone, Copy)]
+pub struct Hex<'a>(pub &'a [u8]);
 
-// Appends the word that spells the bytes.
-pub fn push_hex(out: &mut Vec<u8>, bytes: &[u8]) -> Result<(), AllocError>
-    ensures { OnOk result (out.new.items ≡ out.old.items ++ spelled_bytes bytes.now) }
-{
-    if bytes.is_empty() {
-        out.push(b'-')?;
-        return Ok(());
+impl fmt::Display for Hex<'_> {
+    ghost output = { λ h. Some (spelled_bytes h.0.now) };
+
+    #[tactic(auto, using(std::proofs::lemmas::Grind::put_two, crate::proofs::Spelling::hex_more))]
+    fn fmt<W: fmt::Write>(&self, f: &mut fmt::Formatter<W>) -> fmt::Result {
+        if self.0.is_empty() {
+            return f.write_str("-");
+        }
+        for &byte in self.0 {
+            write!(f, "{byte:02x}")?;
+        }
+        Ok(())
     }
-    push_digits(out, bytes)
 }

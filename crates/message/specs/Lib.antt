@@ -1,4 +1,6 @@
 pub mod Fields
 pub mod Messages
+pub mod Kinds
 pub mod Said
+pub mod Words
 pub mod Laws

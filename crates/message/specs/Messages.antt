@@ -62,9 +62,13 @@ named (k ∷ ks) byte = cond (byte == kind_byte k) (Some k) (named ks byte)
 abbrev pub any_kind : List Kind
 any_kind = statements ∷ strikes ∷ requests ∷ []
 
--- the fields of a message of the kind, and nothing after them
+-- the fields of a message of the kind
+abbrev pub own_fields : Kind → List ℕ → Outcome Content
+own_fields k bs = then (read_values (layout k) bs) (λ vs rest. took (content k vs) rest)
+
+-- and nothing after them
 abbrev pub all_fields : Kind → List ℕ → Outcome Content
-all_fields k bs = alone (then (read_values (layout k) bs) (λ vs rest. took (content k vs) rest))
+all_fields k bs = alone (own_fields k bs)
 
 -- the same, shut: proofs about whole messages need not look inside
 unfoldable pub read_fields : Kind → List ℕ → Outcome Content

@@ -1,99 +1,50 @@
-// Readers of messages: of any kind, and of one kind only.
+// Readers of messages.
 ghost use Rattle.std.specs.Prelude.{◌≡◌, [], ◌∷◌};
-ghost use Rattle.message.specs.Messages.{read_message, any_kind, statements, strikes, requests};
-ghost use Rattle.message.specs.Said.{stated, struck, requested, said, SoundStatement, SoundRequest, SoundMessage, Tells};
+ghost use Rattle.reading.specs.Cursors.{Reads};
+ghost use Rattle.message.specs.Messages.{kind_byte, any_kind, all_fields, read_message};
+ghost use Rattle.message.specs.Said.{said, Tells};
 
-use crate::{Message, Request, Statement, Strike, fields};
+use crate::Message;
+use crate::body::Body;
+use crate::kind::Kind;
+use principal::term::Term;
 use reading::cursor::{Cursor, Row};
 use reading::refusal::ReadFault;
 
+// The fields, with nothing after them.
+fn whole<'a, B: Body<'a>>(cursor: &mut Cursor<'a>) -> Result<B, Row>
+    ensures { Reads B.says (all_fields B.of) cursor.old result cursor.new }
+{
+    let body = B::fields(cursor)?;
+    cursor.end()?;
+    Ok(body)
+}
+
 // A message, by the fields that follow its kind byte.
-fn statement<'a>(bytes: &'a [u8], rest: &'a [u8]) -> Result<Statement<'a>, ReadFault>
-    requires { bytes.now ≡ 1 ∷ rest.now }
-    ensures of_any { Tells stated SoundStatement (read_message any_kind bytes.now) result }
-    ensures of_own { Tells stated SoundStatement (read_message (statements ∷ []) bytes.now) result }
+pub(crate) fn after_kind<'a, B: Body<'a>>(bytes: &'a [u8], rest: &'a [u8]) -> Result<B, ReadFault>
+    requires { bytes.now ≡ kind_byte B.of ∷ rest.now }
+    ensures of_any { Tells B.says (read_message any_kind bytes.now) result }
+    ensures of_own { Tells B.says (read_message (B.of ∷ []) bytes.now) result }
 {
     let mut cursor = Cursor::new(rest);
-    match fields::statement(&mut cursor) {
-        Ok(statement) => Ok(statement),
-        Err(row) => Err(row.fault(1, bytes.len(), cursor.left())),
-    }
+    let body = whole(&mut cursor);
+    let left = cursor.left();
+    body.map_err(|row| row.fault(1, bytes.len(), left))
 }
 
-fn strike(bytes: &[u8], rest: &[u8]) -> Result<Strike, ReadFault>
-    requires { bytes.now ≡ 2 ∷ rest.now }
-    ensures of_any { Tells struck (λ _. Unit {0}) (read_message any_kind bytes.now) result }
-    ensures of_own { Tells struck (λ _. Unit {0}) (read_message (strikes ∷ []) bytes.now) result }
-{
-    let mut cursor = Cursor::new(rest);
-    match fields::strike(&mut cursor) {
-        Ok(strike) => Ok(strike),
-        Err(row) => Err(row.fault(1, bytes.len(), cursor.left())),
-    }
-}
-
-fn request<'a>(bytes: &'a [u8], rest: &'a [u8]) -> Result<Request<'a>, ReadFault>
-    requires { bytes.now ≡ 3 ∷ rest.now }
-    ensures of_any { Tells requested SoundRequest (read_message any_kind bytes.now) result }
-    ensures of_own { Tells requested SoundRequest (read_message (requests ∷ []) bytes.now) result }
-{
-    let mut cursor = Cursor::new(rest);
-    match fields::request(&mut cursor) {
-        Ok(request) => Ok(request),
-        Err(row) => Err(row.fault(1, bytes.len(), cursor.left())),
-    }
-}
-
-impl<'a> Message<'a> {
+impl<'a> Message<Term<'a>> {
     // A message of any kind.
-    pub fn read(bytes: &'a [u8]) -> Result<Message<'a>, ReadFault>
-        ensures { Tells said SoundMessage (read_message any_kind bytes.now) result }
+    pub fn read(bytes: &'a [u8]) -> Result<Message<Term<'a>>, ReadFault>
+        ensures { Tells said (read_message any_kind bytes.now) result }
     {
-        match bytes {
-            [] => Err(Row::CutShort.fault(1, 0, 0)),
-            [1, rest @ ..] => Ok(Message::Statement(statement(bytes, rest)?)),
-            [2, rest @ ..] => Ok(Message::Strike(strike(bytes, rest)?)),
-            [3, rest @ ..] => Ok(Message::Request(request(bytes, rest)?)),
-            _ => Err(Row::UnknownKind.fault(1, bytes.len(), bytes.len())),
-        }
-    }
-}
-
-impl<'a> Statement<'a> {
-    // A statement: another kind byte is not taken.
-    pub fn read(bytes: &'a [u8]) -> Result<Statement<'a>, ReadFault>
-        ensures { Tells stated SoundStatement (read_message (statements ∷ []) bytes.now) result }
-    {
-        match bytes {
-            [] => Err(Row::CutShort.fault(1, 0, 0)),
-            [1, rest @ ..] => statement(bytes, rest),
-            _ => Err(Row::UnknownKind.fault(1, bytes.len(), bytes.len())),
-        }
-    }
-}
-
-impl Strike {
-    // A strike: another kind byte is not taken.
-    pub fn read(bytes: &[u8]) -> Result<Strike, ReadFault>
-        ensures { Tells struck (λ _. Unit {0}) (read_message (strikes ∷ []) bytes.now) result }
-    {
-        match bytes {
-            [] => Err(Row::CutShort.fault(1, 0, 0)),
-            [2, rest @ ..] => strike(bytes, rest),
-            _ => Err(Row::UnknownKind.fault(1, bytes.len(), bytes.len())),
-        }
-    }
-}
-
-impl<'a> Request<'a> {
-    // A request: another kind byte is not taken.
-    pub fn read(bytes: &'a [u8]) -> Result<Request<'a>, ReadFault>
-        ensures { Tells requested SoundRequest (read_message (requests ∷ []) bytes.now) result }
-    {
-        match bytes {
-            [] => Err(Row::CutShort.fault(1, 0, 0)),
-            [3, rest @ ..] => request(bytes, rest),
-            _ => Err(Row::UnknownKind.fault(1, bytes.len(), bytes.len())),
+        let [byte, rest @ ..] = bytes else {
+            return Err(Row::CutShort.fault(1, 0, 0));
+        };
+        match Kind::try_from(*byte) {
+            Ok(Kind::Statement) => Ok(Message::Statement(after_kind(bytes, rest)?)),
+            Ok(Kind::Strike) => Ok(Message::Strike(after_kind(bytes, rest)?)),
+            Ok(Kind::Request) => Ok(Message::Request(after_kind(bytes, rest)?)),
+            Err(row) => Err(row.fault(1, bytes.len(), bytes.len())),
         }
     }
 }

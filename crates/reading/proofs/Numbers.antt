@@ -1,8 +1,7 @@
 -- A number and its bytes, at any width.
-use Rattle.std.proofs.Common.{◌≡◌, ℕ, zero, suc, ◌+◌, ◌*◌, ◌/◌, ◌%◌, ◌^◌, ◌<◌, ◌≤◌, List, [], ◌∷◌, ◌++◌, length, get_or, drop, sym, refl, ap, ◌∙◌, subst, add-zero, mod-eq_of_lt, mul_assoc, mul_comm, add_comm, pow-suc, arith}
+use Rattle.std.proofs.Common.{◌≡◌, ℕ, zero, suc, ◌+◌, ◌*◌, ◌/◌, ◌%◌, ◌^◌, ◌<◌, ◌≤◌, List, [], ◌∷◌, ◌++◌, length, drop, sym, refl, ap, ◌∙◌, subst, mod-eq_of_lt, mul_assoc, mul_comm, add_comm, pow-suc, arith}
 use native.Mathlib.Nat.{add-mul-div_right, mul-add-mod_self_right, mod-one}
 use lib.Arith.{mod-mul, digits_div, digits_lt}
-use Rattle.std.proofs.lemmas.List.{get_or-drop, drop-drop}
 use Rattle.reading.specs.Numbers.{spelled, number, Bytes}
 
 pub powers : (w : ℕ) → 0 < 256 ^ w
@@ -56,19 +55,3 @@ spelled_number (suc w) (b ∷ bs) fits h =
     let top : b ≡ (b * 256 ^ w + m) / 256 ^ w % 256 = sym (ap (λ q. q % 256) (digits_div b small) ∙ mod-eq_of_lt (fits 0)) in
     let low : bs ≡ spelled w (b * 256 ^ w + m) ++ drop w bs = spelled_number w bs tail (omega arith) ∙ ap (λ l. l ++ drop w bs) (sym (spelled_high w b m)) in
     (λ i. top i ∷ low i)
-
--- a number inside bs, digit by digit
-pub number_at : (w at next : ℕ) (bs : List ℕ) → next ≡ at + 1 → number (suc w) (drop at bs) ≡ get_or bs at 0 * 256 ^ w + number w (drop next bs)
-number_at w at next bs e =
-    let digit : get_or (drop at bs) 0 0 ≡ get_or bs at 0 = get_or-drop at bs 0 0 ∙ ap (λ i. get_or bs i 0) (add-zero at) in
-    let more : drop 1 (drop at bs) ≡ drop next bs = drop-drop 1 at bs ∙ ap (λ i. drop i bs) (sym e) in
-    (λ i. digit i * 256 ^ w + number w (more i))
-
-pub one_byte : (at : ℕ) (bs : List ℕ) → get_or bs at 0 ≡ number 1 (drop at bs)
-one_byte at bs = omega (arith, number_at 0 at (at + 1) bs refl)
-
-pub two_bytes : (at : ℕ) (bs : List ℕ) → get_or bs at 0 * 256 + get_or bs (at + 1) 0 ≡ number 2 (drop at bs)
-two_bytes at bs = omega (arith, number_at 1 at (at + 1) bs refl, number_at 0 (at + 1) (at + 2) bs (omega arith))
-
-pub four_bytes : (at : ℕ) (bs : List ℕ) → get_or bs at 0 * 16777216 + get_or bs (at + 1) 0 * 65536 + get_or bs (at + 2) 0 * 256 + get_or bs (at + 3) 0 ≡ number 4 (drop at bs)
-four_bytes at bs = omega (arith, number_at 3 at (at + 1) bs refl, number_at 2 (at + 1) (at + 2) bs (omega arith), number_at 1 (at + 2) (at + 3) bs (omega arith), number_at 0 (at + 3) (at + 4) bs (omega arith))

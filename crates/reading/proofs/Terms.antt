@@ -79,10 +79,6 @@ one_outcome o x y m n e f = (cc, cc)
 pub never_both : {A : Type 0} (o : Outcome A) (x : A) (m : List ℕ) (row : Row) (left : ℕ) → o ≡ took x m → o ≡ stopped row left → ⊥
 never_both o x m row left e f = let z : ◌≡◌ {A = ℕ} 0 1 = cc in omega arith
 
--- a term is as long as its principal's
-pub as_long : (t : List ℕ) (p : Principal) → Spelled t → principal t ≡ p → length t ≡ length (encode p)
-as_long t p s e = ap length (s.bytes ∙ ap encode e)
-
 -- a number that is the last
 pub number_is : (n : ℕ) (bs : List ℕ) → n < 2 ^ 32 → bs ≡ spelled 4 n → read_number 4 bs ≡ took n []
 number_is n bs h e = ap (read_number 4) e ∙ ap (λ m. took m []) (ap (number 4) (sym (append-nil (spelled 4 n))) ∙ number_spelled 4 n [] h)

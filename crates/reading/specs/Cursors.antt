@@ -1,10 +1,9 @@
 -- What a cursor's readers do, by what is left to read.
-use Rattle.std.specs.Prelude.{◌≡◌, ℕ, ◌+◌, ◌-◌, ◌<◌, ◌≤◌, Bool, true, false, List, length, drop, Result, MatchResult}
+use Rattle.std.specs.Prelude.{◌≡◌, ℕ, ◌-◌, ◌<◌, ◌≤◌, Bool, true, false, List, length, drop, Result, MatchResult}
 use Rattle.std.specs.Borrow.{Bor}
 use Rattle.reading.specs.declared.cursor.Row.{Row}
 use Rattle.reading.specs.declared.cursor.Row.TheVariants.{LeftOver}
 use Rattle.reading.specs.declared.cursor.Cursor.{Cursor}
-use Rattle.reading.specs.Numbers.{number}
 use Rattle.reading.specs.Principal.{Principal}
 use Rattle.reading.specs.Reading.{Outcome, took, stopped, at_end}
 use Rattle.reading.specs.Terms.{Spelled, principal}
@@ -25,27 +24,27 @@ unread c = length c.bytes.now - c.at
 abbrev pub span : Cursor → ℕ → ℕ
 span c start = length c.bytes.now - start
 
--- P holds of the answer; or the answer is the row, and the cursor is at the item that failed
-abbrev pub OrStopped : {A B : Type 0} → Outcome A → Cursor → Result B Row → (B → Type 0) → Type 0
-OrStopped outcome after r P = MatchResult r P (λ row. outcome ≡ stopped row (unread after))
+-- Reading what is left gave the outcome, and the cursor stays over its input. P holds of the answer; or the answer is
+-- the row, and the cursor is at the item that failed.
+pub record OrStopped {A B : Type 0} (outcome : Outcome A) (before : Cursor) (r : Result B Row) (after : Cursor) (P : B → Type 0) : Type 0 where
+  pub same : over after ≡ over before
+  pub reads : MatchResult r P (λ row. outcome ≡ stopped row (unread after))
 
--- the answer is what was read, and the cursor went past it
-abbrev pub Reads : {A : Type 0} → Outcome A → Result A Row → Cursor → Type 0
-Reads outcome r after = OrStopped outcome after r (λ x. outcome ≡ took x (rest after))
+-- the answer is what was read, by its value, and the cursor went past it
+abbrev pub Reads : {A B : Type 0} → (B → A) → (List ℕ → Outcome A) → Cursor → Result B Row → Cursor → Type 0
+Reads value read before r after =
+    OrStopped (read (rest before)) before r after (λ x. read (rest before) ≡ took (value x) (rest after))
 
 -- the same, of an answer that leaves out what was read
-abbrev pub Passes : {A : Type 0} → Outcome A → Result (Unit {0}) Row → Cursor → Type 0
-Passes {A} outcome r after = OrStopped outcome after r (λ _. (x : A) × (outcome ≡ took x (rest after)))
-
--- the same, of an answer that says where a number starts
-abbrev pub Starts : ℕ → Outcome ℕ → Result ℕ Row → Cursor → Type 0
-Starts width outcome r after =
-    OrStopped outcome after r (λ start. (outcome ≡ took (number width (drop start (over after))) (rest after)) × (start + width ≤ length (over after)))
+abbrev pub Passes : {A : Type 0} → (List ℕ → Outcome A) → Cursor → Result (Unit {0}) Row → Cursor → Type 0
+Passes {A} read before r after =
+    OrStopped (read (rest before)) before r after (λ _. (x : A) × (read (rest before) ≡ took x (rest after)))
 
 -- the same, of an answer that is a term's bytes
-abbrev pub SpellsTerm : Outcome Principal → Result (Bor (List ℕ)) Row → Cursor → Type 0
-SpellsTerm outcome r after =
-    OrStopped outcome after r (λ bytes. Spelled bytes.now × (outcome ≡ took (principal bytes.now) (rest after)))
+abbrev pub SpellsTerm : (List ℕ → Outcome Principal) → Cursor → Result (Bor (List ℕ)) Row → Cursor → Type 0
+SpellsTerm read before r after =
+    OrStopped (read (rest before)) before r after
+    (λ bytes. Spelled bytes.now × (read (rest before) ≡ took (principal bytes.now) (rest after)))
 
 -- whether nothing is left
 abbrev pub TellsEnd : Cursor → Bool → Type 0

@@ -7,3 +7,4 @@ pub mod Terms
 pub mod Refusals
 pub mod Kinds
 pub mod Cursors
+pub mod Words

@@ -2,5 +2,7 @@
 #![tactic(auto)]
 
 pub mod cursor;
+pub mod kind;
 pub mod laws;
+pub mod number;
 pub mod refusal;

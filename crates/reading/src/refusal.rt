@@ -1,9 +1,15 @@
 // What a refusal tells: layer, number and place.
-ghost use Rattle.std.specs.Prelude.{◌≡◌};
+ghost use Rattle.std.specs.Prelude.{◌≡◌, Some};
 ghost use Rattle.reading.specs.Refusals.{refused};
+ghost use Rattle.reading.specs.Words.{layer_text, place_text, fault_text};
 
-// A part of an input. Inputs count from 1, bytes from 0; all are 0 where no input is meant.
-#[derive(Clone, Copy)]
+use crate::cursor::Row;
+use std::error::Error;
+use std::fmt;
+
+// A part of an input. Inputs count from 1, bytes from 0; all are 0 where no input is meant, as the answers and the C
+// interface tell it.
+#[derive(Clone, Copy, Debug, PartialEq, Eq)]
 pub struct Place {
     pub input: u32,
     pub start: usize,
@@ -11,15 +17,16 @@ pub struct Place {
 }
 
 // The layer of the gate to which a refusal belongs.
-#[derive(Clone, Copy)]
+#[derive(Clone, Copy, Debug, PartialEq, Eq)]
 pub enum Layer {
-    Reading,
-    Seal,
-    Guard,
-    Journal,
+    Reading = 1,
+    Seal = 2,
+    Guard = 3,
+    Journal = 4,
 }
 
-#[derive(Clone, Copy)]
+// The number is the row's in the format, which the answers and the C interface tell.
+#[derive(Clone, Copy, Debug, PartialEq, Eq)]
 pub struct Refusal {
     pub layer: Layer,
     pub number: u8,
@@ -27,16 +34,10 @@ pub struct Refusal {
 }
 
 // Why bytes were not read, or a message was not written.
-#[derive(Clone, Copy)]
+#[derive(Clone, Copy, Debug, PartialEq, Eq)]
 pub enum ReadFault {
-    // The bytes end inside a field or term.
-    CutShort(Place),
-    // A kind byte that is not taken there.
-    UnknownKind(Place),
-    // The term would pass 60 bytes.
-    TooLong(Place),
-    // Bytes are left over.
-    LeftOver(Place),
+    // Reading stopped by the row, at the place.
+    Stopped(Row, Place),
     // The written message is longer than its buffer.
     NoRoom,
 }
@@ -47,15 +48,12 @@ const NOWHERE: Place = Place {
     len: 0,
 };
 
-impl ReadFault {
-    pub fn refusal(self) -> Refusal
-        ensures { result ≡ refused self }
-    {
-        let (number, place) = match self {
-            ReadFault::CutShort(place) => (1, place),
-            ReadFault::UnknownKind(place) => (2, place),
-            ReadFault::TooLong(place) => (3, place),
-            ReadFault::LeftOver(place) => (4, place),
+impl From<ReadFault> for Refusal {
+    ghost from_gives = { λ fault refusal. refusal ≡ refused fault };
+
+    fn from(fault: ReadFault) -> Refusal {
+        let (number, place) = match fault {
+            ReadFault::Stopped(row, place) => (row as u8, place),
             ReadFault::NoRoom => (19, NOWHERE),
         };
         Refusal {
@@ -65,3 +63,42 @@ impl ReadFault {
         }
     }
 }
+
+impl fmt::Display for Layer {
+    ghost output = { λ layer. Some (layer_text layer) };
+
+    fn fmt<W: fmt::Write>(&self, f: &mut fmt::Formatter<W>) -> fmt::Result {
+        f.write_str(match self {
+            Layer::Reading => "reading",
+            Layer::Seal => "seal",
+            Layer::Guard => "guard",
+            Layer::Journal => "journal",
+        })
+    }
+}
+
+// Which input, from which byte, and how many bytes.
+impl fmt::Display for Place {
+    ghost output = { λ place. Some (place_text place) };
+
+    fn fmt<W: fmt::Write>(&self, f: &mut fmt::Formatter<W>) -> fmt::Result {
+        let input = self.input;
+        let start = self.start;
+        let len = self.len;
+        write!(f, "input {input}, from byte {start}, length {len}")
+    }
+}
+
+// What is wrong, and where.
+impl fmt::Display for ReadFault {
+    ghost output = { λ fault. Some (fault_text fault) };
+
+    fn fmt<W: fmt::Write>(&self, f: &mut fmt::Formatter<W>) -> fmt::Result {
+        match self {
+            ReadFault::Stopped(row, place) => write!(f, "{row} ({place})"),
+            ReadFault::NoRoom => write!(f, "the message is longer than its buffer ({NOWHERE})"),
+        }
+    }
+}
+
+impl Error for ReadFault {}

@@ -1,4 +1,4 @@
-// Decimal numbers.
+// Decimal numbers. The library's `parse` takes text and a sign, and the words of a script are bytes.
 ghost use Rattle.std.specs.Prelude.{◌≡◌};
 ghost use Rattle.script.specs.Decimals.{NextDigit, digits_within, decimal_of};
 
@@ -14,6 +14,7 @@ fn with_digit(n: u64, digit: u8, max: u64) -> Option<u64>
 }
 
 // The number that digits spell, if it is within `max`. It stops at the first digit that goes past `max`.
+#[tactic(auto, using(crate::proofs::Decimals::goes_on, crate::proofs::Decimals::stops, crate::proofs::Decimals::ends))]
 fn value_within(digits: &[u8], max: u64) -> Option<u64>
     ensures { result ≡ digits_within digits.now max }
 {

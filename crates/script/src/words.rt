@@ -1,34 +1,30 @@
 // The parts of a line between single spaces.
-ghost use Rattle.std.specs.Prelude.{◌≡◌, ◌∷◌};
-ghost use Rattle.script.specs.Split.{split, FirstEnds};
-ghost use Rattle.script.specs.Words.{parts_of, left, TakesFirst};
+ghost use Rattle.std.specs.Prelude.{◌≡◌, ◌∷◌, ◌==◌, position};
+ghost use Rattle.std.specs.Iterator.{YieldsFirstRef, item_count};
+ghost use Rattle.script.specs.Split.{split};
+ghost use Rattle.script.specs.Words.{parts_of, left};
 
-// The words that are left: those of `rest`, or none.
+// The words that are left: those of `rest`, or none. The iterator of the library's `split` has a closure in its type: a
+// struct could hold it by a type parameter only, and each contract of such a struct would speak of any iterator.
 #[derive(Drop)]
 pub struct Words<'a> {
     rest: Option<&'a [u8]>,
 }
 
-// Where the first word ends: at the first space, or at the line's end.
-fn first_end(line: &[u8]) -> usize
-    ensures { FirstEnds line.now result }
+fn first_space(line: &[u8]) -> Option<usize>
+    ensures { result ≡ position (λ c. c == 32) line.now }
 {
-    for (i, byte) in line.iter().enumerate() {
-        if *byte == b' ' {
-            return i;
-        }
-    }
-    line.len()
+    line.iter().position(|byte| *byte == b' ')
 }
 
 // The first word, and what follows the space after it, if there is one.
-fn cut<'a>(line: &'a [u8]) -> (&'a [u8], Option<&'a [u8]>)
+#[tactic(auto, using(crate::proofs::Splitting::split_at_space, crate::proofs::Splitting::split_no_space))]
+fn cut(line: &[u8]) -> (&[u8], Option<&[u8]>)
     ensures { split line.now ≡ result.0.now ∷ parts_of result.1 }
 {
-    let (word, after) = line.split_at(first_end(line));
-    match after.split_first() {
-        Some((_, rest)) => (word, Some(rest)),
-        None => (word, None),
+    match first_space(line) {
+        Some(end) => (&line[..end], Some(&line[end + 1..])),
+        None => (line, None),
     }
 }
 
@@ -38,11 +34,17 @@ impl<'a> Words<'a> {
     {
         Words { rest: Some(line) }
     }
+}
 
-    // The next word. It is empty between two spaces in a row, and beside a space at either end of the line.
-    pub fn next(&mut self) -> Option<&'a [u8]>
-        ensures { TakesFirst (left self.old) result (left self.new) }
-    {
+// A word is empty between two spaces in a row, and beside a space at either end of the line.
+impl<'a> Iterator for Words<'a> {
+    type Item = &'a [u8];
+
+    ghost next_gives = { YieldsFirstRef left };
+
+    ghost remaining = { item_count left };
+
+    fn next(&mut self) -> Option<&'a [u8]> {
         let (word, rest) = cut(self.rest?);
         self.rest = rest;
         Some(word)

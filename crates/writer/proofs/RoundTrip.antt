@@ -1,5 +1,5 @@
 -- Writing and reading undo each other.
-use Rattle.std.proofs.Common.{◌≡◌, ℕ, suc, true, false, cond, ltb, List, [], ◌∷◌, ◌++◌, length, take, drop, Some, Ok, Err, Result, sym, refl, ap, ◌∙◌, subst, arith, le-ltb}
+use Rattle.std.proofs.Common.{◌≡◌, ℕ, suc, true, false, cond, ltb, List, [], ◌∷◌, ◌++◌, length, take, drop, Ok, Err, Result, sym, refl, ap, ◌∙◌, subst, arith, le-ltb}
 use Rattle.std.proofs.lemmas.Bool.{cond-false}
 use Rattle.std.proofs.lemmas.List.{take_at}
 use Rattle.reading.specs.declared.refusal.ReadFault.{ReadFault}
@@ -12,9 +12,10 @@ use Rattle.principal.proofs.Inputs.{one_term}
 use Rattle.reading.proofs.Terms.{last_is}
 use Rattle.principal.specs.Terms.{read_input}
 use Rattle.message.specs.Fields.{Field, number, term, Values, ValuesFit}
-use Rattle.message.specs.Messages.{Kind, statements, strikes, requests, kind_byte, layout, kind, values, content, encode_message, FitsMessage, named, any_kind}
+use Rattle.message.specs.Messages.{layout, kind, values, content, encode_message, FitsMessage, any_kind}
 use Rattle.writer.specs.Writing.{Givens, and_then, check, drafted, laid_answer, write_answer, buffer_after}
 use Rattle.writer.specs.RoundTrip.{GivensFit, givens, WrittenMessagesReadBack, ReadMessagesWriteBack}
+use Rattle.message.proofs.Readers.{named_any}
 use Rattle.message.proofs.Rows.{message_reads, messages_are_read, encoded, decoded}
 
 -- a readable principal's term, as an input
@@ -48,11 +49,6 @@ passes (term ∷ fs) input (p, vs) (h, hs) =
     ap (λ r. and_then r (λ q. and_then (check fs (suc input) (givens fs vs)) (λ vs. Ok (q, vs)))) (input_is input p h)
     ∙ ap (λ r. and_then r (λ vs. Ok (p, vs))) (passes fs (suc input) vs hs)
 
-any_named : (k : Kind) → named any_kind (kind_byte k) ≡ Some k
-any_named statements = refl
-any_named strikes = refl
-any_named requests = refl
-
 laid_ok : (bytes buffer : List ℕ) (n : ℕ) → laid_answer bytes buffer ≡ Ok n → n ≡ length bytes
 laid_ok bytes buffer n e =
     elim (ltb (length buffer) (length bytes)) as (λ b. cond b (Err NoRoom) (Ok (length bytes)) ≡ Ok n → n ≡ length bytes) [
@@ -70,7 +66,7 @@ written_messages_read_back k gs buffer n h e =
     let long : length (encode_message m) ≡ n = sym (laid_ok (encode_message m) buffer n d.2) in
     let laid : take n (buffer_after (drafted k gs) (Ok n) buffer) ≡ encode_message m =
     ap (λ r. take n (buffer_after r (Ok n) buffer)) d.1 ∙ take_at (encode_message m) (drop n buffer) n long in
-    message_reads any_kind _ m laid fits (any_named (kind m)) ∙ sym d.1
+    message_reads any_kind _ m laid fits (named_any (kind m)) ∙ sym d.1
 
 pub read_messages_write_back : ReadMessagesWriteBack
 read_messages_write_back taken bs fits m e buffer room =

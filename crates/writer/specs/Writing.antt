@@ -1,11 +1,13 @@
 -- What writing a message gives: the answer, and the whole buffer.
-use Rattle.std.specs.Prelude.{ℕ, suc, cond, List, [], ◌∷◌, ◌++◌, length, drop, Ok, Err, Result, nat_lt}
+use Rattle.std.specs.Prelude.{◌≡◌, ℕ, suc, cond, List, [], ◌∷◌, ◌++◌, length, drop, Ok, Err, Result, nat_lt}
 use Rattle.std.specs.Borrow.{Bor}
 use Rattle.reading.specs.declared.refusal.ReadFault.{ReadFault}
 use Rattle.reading.specs.declared.refusal.ReadFault.TheVariants.{NoRoom}
 use Rattle.principal.specs.Terms.{read_input}
 use Rattle.message.specs.Fields.{Field, number, term, Values}
-use Rattle.message.specs.Messages.{Content, Kind, layout, content, encode_message}
+use Rattle.message.specs.declared.Message.{Message}
+use Rattle.message.specs.declared.Message.TheVariants.{Statement, Strike, Request}
+use Rattle.message.specs.Messages.{Content, Kind, statements, strikes, requests, layout, content, encode_message}
 
 -- the parts, one after another
 abbrev pub joined : List (Bor (List ℕ)) → List ℕ
@@ -35,6 +37,12 @@ check (term ∷ fs) input (bs, gs) = and_then (read_input input bs) (λ p. and_t
 abbrev pub drafted : (k : Kind) → Givens (layout k) → Result Content ReadFault
 drafted k gs = and_then (check (layout k) 1 gs) (λ vs. Ok (content k vs))
 
+-- the same, of what is given for a message, each term by its bytes
+abbrev pub draft_of : {T : Type 0} → (T → List ℕ) → Message T → Result Content ReadFault
+draft_of bytes (Statement s) = drafted statements (s.serial, (s.from, (s.until, (bytes s.sayer, (bytes s.left, (bytes s.right, tt))))))
+draft_of bytes (Strike s) = drafted strikes (s.serial, tt)
+draft_of bytes (Request q) = drafted requests (q.number, (q.object, (q.operation, (bytes q.sayer, tt))))
+
 -- bytes are laid at the front of a buffer, if it has room for them: the answer, and the buffer after it
 abbrev pub laid_answer : List ℕ → List ℕ → Result ℕ ReadFault
 laid_answer bytes buffer = cond (nat_lt (length buffer) (length bytes)) (Err NoRoom) (Ok (length bytes))
@@ -42,6 +50,11 @@ laid_answer bytes buffer = cond (nat_lt (length buffer) (length bytes)) (Err NoR
 abbrev pub laid_buffer : List ℕ → Result ℕ ReadFault → List ℕ → List ℕ
 laid_buffer bytes (Ok length) buffer = bytes ++ drop length buffer
 laid_buffer bytes (Err fault) buffer = buffer
+
+-- so laid: the answer and the buffer after it
+pub record Lays (bytes before : List ℕ) (r : Result ℕ ReadFault) (after : List ℕ) : Type 0 where
+  pub answer : r ≡ laid_answer bytes before
+  pub buffer : after ≡ laid_buffer bytes r before
 
 -- what writing answers
 abbrev pub write_answer : Result Content ReadFault → List ℕ → Result ℕ ReadFault

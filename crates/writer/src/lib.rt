@@ -1,175 +1,94 @@
-// Writes messages into a lent buffer, each from its fields, the terms given as bytes.
+// Writes messages into a lent buffer, the terms given as bytes.
 #![tactic(auto)]
 
-ghost use Rattle.std.specs.Prelude.{◌≡◌, ℕ, ◌+◌, ◌≤◌, [], ◌++◌, length, drop, nat_le};
-ghost use Rattle.reading.specs.Numbers.{spelled};
-ghost use Rattle.principal.specs.Terms.{Sound, means};
-ghost use Rattle.message.specs.Messages.{statement, statements, strikes, requests, encode_message};
-ghost use Rattle.writer.specs.Writing.{joined, drafted, write_answer, buffer_after, laid_answer, laid_buffer};
+ghost use Rattle.std.specs.Prelude.{◌≡◌};
+ghost use Rattle.message.specs.Messages.{encode_message};
+ghost use Rattle.message.specs.Said.{said, Tells};
+ghost use Rattle.writer.specs.Writing.{joined, draft_of, write_answer, buffer_after, Lays};
 
 pub mod laws;
 
+use message::kind::Kind;
+use message::{Message, Request, Statement};
 use principal::term::Term;
+use reading::number::Number;
 use reading::refusal::ReadFault;
+use std::convert::AsSlice;
 
-// Writes the parts one after another from the front of the buffer, which has room for them.
-fn lay(out: &mut [u8], parts: &[&[u8]]) -> usize
-    requires { length (joined parts.now) ≤ length out.old }
-    ensures end { result ≡ length (joined parts.now) }
-    ensures laid { out.new ≡ joined parts.now ++ drop (length (joined parts.now)) out.old }
+// Writes the parts one after another from the front of the buffer, and says how long they are. Each part is written
+// after those that follow it, so a buffer that has no room for all of them stays as it was.
+fn lay(out: &mut [u8], parts: &[&[u8]]) -> Result<usize, ReadFault>
+    ensures { Lays (joined parts.now) out.old result out.new }
 {
-    let mut at = 0;
-    for part in parts {
-        let end = at + part.len();
-        out[at..end].copy_from_slice(part);
-        at = end;
+    let Some((part, others)) = parts.split_first() else {
+        return Ok(0);
+    };
+    if out.len() < part.len() {
+        return Err(ReadFault::NoRoom);
     }
-    at
+    let (here, after) = out.split_at_mut(part.len());
+    let rest = lay(after, others)?;
+    here.copy_from_slice(part);
+    Ok(part.len() + rest)
 }
 
-// Whether the parts fit so many bytes.
-fn fits(parts: &[&[u8]], room: usize) -> bool
-    ensures { result ≡ nat_le (length (joined parts.now)) room }
+// The message with its terms read, each as an input: the first is input 1.
+fn read_terms<T: AsSlice<u8>>(given: &Message<T>) -> Result<Message<Term<'_>>, ReadFault>
+    ensures { Tells said (draft_of T.items given.now) result }
 {
-    let mut room = room;
-    for part in parts {
-        if room < part.len() {
-            return false;
-        }
-        room -= part.len();
+    Ok(match given {
+        Message::Statement(s) => Message::Statement(Statement {
+            serial: s.serial,
+            from: s.from,
+            until: s.until,
+            sayer: Term::read(1, s.sayer.as_slice())?,
+            left: Term::read(2, s.left.as_slice())?,
+            right: Term::read(3, s.right.as_slice())?,
+        }),
+        Message::Strike(s) => Message::Strike(*s),
+        Message::Request(q) => Message::Request(Request {
+            number: q.number,
+            object: q.object,
+            operation: q.operation,
+            sayer: Term::read(1, q.sayer.as_slice())?,
+        }),
+    })
+}
+
+fn put(message: Message<Term>, out: &mut [u8]) -> Result<usize, ReadFault>
+    ensures { Lays (encode_message (said message.entry)) out.old result out.new }
+{
+    match message {
+        Message::Statement(s) => lay(
+            out,
+            &[
+                &[Kind::Statement as u8],
+                &s.serial.to_bytes(),
+                &s.from.to_bytes(),
+                &s.until.to_bytes(),
+                s.sayer.as_bytes(),
+                s.left.as_bytes(),
+                s.right.as_bytes(),
+            ],
+        ),
+        Message::Strike(s) => lay(out, &[&[Kind::Strike as u8], &s.serial.to_bytes()]),
+        Message::Request(q) => lay(
+            out,
+            &[
+                &[Kind::Request as u8],
+                &q.number.to_bytes(),
+                &q.object.to_bytes(),
+                &q.operation.to_bytes(),
+                q.sayer.as_bytes(),
+            ],
+        ),
     }
-    true
 }
 
-// Writes the parts, or refuses and leaves the buffer as it was.
-fn write(out: &mut [u8], parts: &[&[u8]]) -> Result<usize, ReadFault>
-    ensures answer { result ≡ laid_answer (joined parts.now) out.old }
-    ensures buffer { out.new ≡ laid_buffer (joined parts.now) result out.old }
+// Reads the terms, and writes the message: its length, or a refusal that leaves the buffer as it was.
+pub fn write<T: AsSlice<u8>>(given: &Message<T>, out: &mut [u8]) -> Result<usize, ReadFault>
+    ensures answer { result ≡ write_answer (draft_of T.items given.now) out.old }
+    ensures buffer { out.new ≡ buffer_after (draft_of T.items given.now) result out.old }
 {
-    if fits(parts, out.len()) {
-        Ok(lay(out, parts))
-    } else {
-        Err(ReadFault::NoRoom)
-    }
-}
-
-fn word(n: u32) -> [u8; 4]
-    ensures { result ≡ spelled 4 n }
-{
-    n.to_be_bytes()
-}
-
-fn half(n: u16) -> [u8; 2]
-    ensures { result ≡ spelled 2 n }
-{
-    n.to_be_bytes()
-}
-
-fn byte(n: u8) -> [u8; 1]
-    ensures { result ≡ spelled 1 n }
-{
-    [n]
-}
-
-pub fn write_strike(serial: u32, out: &mut [u8]) -> Result<usize, ReadFault>
-    ensures answer { result ≡ write_answer (drafted strikes (serial, tt)) out.old }
-    ensures buffer { out.new ≡ buffer_after (drafted strikes (serial, tt)) result out.old }
-{
-    write(out, &[&[2], &word(serial)])
-}
-
-// The parts of a request, all borrowed for as long as it is written.
-fn write_five<'p>(
-    out: &mut [u8],
-    kind: &'p [u8],
-    number: &'p [u8],
-    object: &'p [u8],
-    operation: &'p [u8],
-    sayer: &'p [u8],
-) -> Result<usize, ReadFault>
-    ensures answer { result ≡ laid_answer (kind.now ++ (number.now ++ (object.now ++ (operation.now ++ (sayer.now ++ []))))) out.old }
-    ensures buffer { out.new ≡ laid_buffer (kind.now ++ (number.now ++ (object.now ++ (operation.now ++ (sayer.now ++ []))))) result out.old }
-{
-    write(out, &[kind, number, object, operation, sayer])
-}
-
-pub fn write_request(
-    number: u32,
-    object: u16,
-    operation: u8,
-    sayer: &[u8],
-    out: &mut [u8],
-) -> Result<usize, ReadFault>
-    ensures answer { result ≡ write_answer (drafted requests (number, (object, (operation, (sayer.now, tt))))) out.old }
-    ensures buffer { out.new ≡ buffer_after (drafted requests (number, (object, (operation, (sayer.now, tt))))) result out.old }
-{
-    let sayer = Term::read(1, sayer)?;
-    write_five(
-        out,
-        &[3],
-        &word(number),
-        &half(object),
-        &byte(operation),
-        sayer.as_bytes(),
-    )
-}
-
-// The parts of a statement, all borrowed for as long as it is written.
-fn write_seven<'p>(
-    out: &mut [u8],
-    kind: &'p [u8],
-    serial: &'p [u8],
-    from: &'p [u8],
-    until: &'p [u8],
-    sayer: &'p [u8],
-    left: &'p [u8],
-    right: &'p [u8],
-) -> Result<usize, ReadFault>
-    ensures answer { result ≡ laid_answer (kind.now ++ (serial.now ++ (from.now ++ (until.now ++ (sayer.now ++ (left.now ++ (right.now ++ []))))))) out.old }
-    ensures buffer { out.new ≡ laid_buffer (kind.now ++ (serial.now ++ (from.now ++ (until.now ++ (sayer.now ++ (left.now ++ (right.now ++ []))))))) result out.old }
-{
-    write(out, &[kind, serial, from, until, sayer, left, right])
-}
-
-fn put_statement(
-    serial: u32,
-    from: u32,
-    until: u32,
-    sayer: Term,
-    left: Term,
-    right: Term,
-    out: &mut [u8],
-) -> Result<usize, ReadFault>
-    requires { (Sound sayer) × ((Sound left) × (Sound right)) }
-    ensures answer { result ≡ laid_answer (encode_message (statement serial from until (means sayer.entry) (means left.entry) (means right.entry))) out.old }
-    ensures buffer { out.new ≡ laid_buffer (encode_message (statement serial from until (means sayer.entry) (means left.entry) (means right.entry))) result out.old }
-{
-    write_seven(
-        out,
-        &[1],
-        &word(serial),
-        &word(from),
-        &word(until),
-        sayer.as_bytes(),
-        left.as_bytes(),
-        right.as_bytes(),
-    )
-}
-
-pub fn write_statement(
-    serial: u32,
-    from: u32,
-    until: u32,
-    sayer: &[u8],
-    left: &[u8],
-    right: &[u8],
-    out: &mut [u8],
-) -> Result<usize, ReadFault>
-    ensures answer { result ≡ write_answer (drafted statements (serial, (from, (until, (sayer.now, (left.now, (right.now, tt))))))) out.old }
-    ensures buffer { out.new ≡ buffer_after (drafted statements (serial, (from, (until, (sayer.now, (left.now, (right.now, tt))))))) result out.old }
-{
-    let sayer = Term::read(1, sayer)?;
-    let left = Term::read(2, left)?;
-    let right = Term::read(3, right)?;
-    put_statement(serial, from, until, sayer, left, right, out)
+    put(read_terms(given)?, out)
 }

@@ -1,11 +1,7 @@
-use Rattle.std.proofs.Common.{◌≡◌, ◌++◌, vec_items}
-use Rattle.std.specs.Slice.Iter.{chunks_exact_rest, chunks_exact_size}
+use Rattle.std.proofs.Common.{◌≡◌, ◌*◌, take, vec_items}
 use Rattle.hex_words.specs.Spelling.{hex, Bytes}
 use Rattle.hex_words.proofs.from_digits.Given as goal
 
--- the digits of the bytes so far, and then those that are left
-abbrev pub invariant-loop-pair : goal.invariant-loop-pair
-invariant-loop-pair l =
-    (hex (vec_items l.bytes) ++ chunks_exact_rest l.pair-iterator ≡ l.word)
-    × (chunks_exact_size l.pair-iterator ≡ 2)
-    × Bytes (vec_items l.bytes)
+-- the bytes of the pairs so far
+abbrev pub invariant-loop-high : goal.invariant-loop-high
+invariant-loop-high l = (hex (vec_items l.bytes) ≡ take (2 * l.high-index) l.word) × Bytes (vec_items l.bytes)
