@@ -7,12 +7,12 @@ ghost use Rattle.principal.specs.Terms.{means};
 ghost use Rattle.message.specs.Messages.{read_message, any_kind, statements, strikes, requests};
 ghost use Rattle.message.specs.Said.{said};
 ghost use Rattle.writer.specs.Writing.{drafted, write_answer, buffer_after};
-ghost use Rattle.capi.specs.Calls.{range, size, told, place_told, ReadTold, WrittenTold};
+ghost use Rattle.capi.specs.Calls.{range, size, told, layer_told, place_told, ReadTold, WrittenTold};
 
 use message::kind::Kind;
 use message::{Message, Request, Statement, Strike};
 use principal::term::Term;
-use reading::refusal::{ReadFault, Refusal};
+use reading::refusal::{Layer, ReadFault, Refusal};
 use writer::write;
 
 // A part of the message: where it starts, and how long it is. C takes no slice in a struct.
@@ -51,13 +51,20 @@ pub struct GateRefusal {
     pub len: usize,
 }
 
+// C takes the layer as a number: the enum's.
+fn layer_code(layer: Layer) -> u32
+    ensures { result ≡ layer_told layer }
+{
+    layer as u32
+}
+
 impl From<ReadFault> for GateRefusal {
     ghost from_gives = { λ fault refusal. refusal ≡ place_told fault };
 
     fn from(fault: ReadFault) -> GateRefusal {
         let told = Refusal::from(fault);
         GateRefusal {
-            layer: told.layer as u32,
+            layer: layer_code(told.layer),
             number: u32::from(told.number),
             input: told.place.input,
             start: told.place.start,

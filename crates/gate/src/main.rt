@@ -10,7 +10,7 @@ use crate::answer::answer;
 use commands::{Fault, parse};
 use std::alloc::{AllocError, Global};
 use std::io;
-use std::io::{BufRead, BufReader};
+use std::io::{BufRead, BufReader, Write};
 
 // A blank line and a comment have no answer. A line that is no call changes nothing, and the script goes on.
 fn carry_out(heap: Global, line: &[u8]) -> Result<Option<String>, AllocError>
@@ -26,8 +26,10 @@ fn carry_out(heap: Global, line: &[u8]) -> Result<Option<String>, AllocError>
 
 fn main(rt: HostRuntime) -> io::Result<()> {
     for line in BufReader::new(rt.alloc(), rt.stdin())?.split(rt.alloc(), b'\n') {
-        if let Some(answer) = carry_out(rt.alloc(), line?.as_slice())? {
-            println!(rt; "{answer}")?;
+        if let Some(mut answer) = carry_out(rt.alloc(), line?.as_slice())? {
+            // One write for each answer, however long: `println!` would cut a long one.
+            answer.push('\n')?;
+            rt.stdout().write_all(answer.as_bytes())?;
         }
     }
     Ok(())

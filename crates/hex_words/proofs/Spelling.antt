@@ -1,12 +1,13 @@
 -- Bytes and their hex.
-use Rattle.std.proofs.Common.{◌≡◌, ℕ, zero, suc, ◌+◌, ◌-◌, ◌*◌, ◌/◌, ◌%◌, ◌^◌, ◌<◌, false, List, [], ◌∷◌, ◌++◌, length, get_or, take, drop, sym, refl, ap, ◌∙◌, arith}
-use Rattle.std.proofs.lemmas.List.{append_assoc, take_more, get_or-take, get_or-drop}
+use Rattle.std.proofs.Common.{◌≡◌, ℕ, zero, suc, ◌+◌, ◌*◌, ◌/◌, ◌%◌, ◌<◌, List, [], ◌∷◌, ◌++◌, length, get_or, take, drop, set, sym, refl, ap, ◌∙◌, mul_comm, arith}
+use Rattle.std.proofs.lemmas.List.{append_assoc, take_more, take_more_set, length-set, drop-drop, take-append-drop, get_or-take, get_or-drop}
+use Rattle.std.proofs.Math.Seq.{take-add}
+use Rattle.std.specs.Str.{IsAscii, IsUtf8}
+use Rattle.std.proofs.lemmas.Str.{IsUtf8-from_ascii}
 use Rattle.std.specs.Simd.{first_chunks}
-use Rattle.std.proofs.lemmas.Fmt.{hex_byte}
-use Rattle.std.specs.Fmt.{padded_integral, format_spec, digits}
 use Rattle.std.proofs.lemmas.Grind.{common_steps}
 use Rattle.std.proofs.lemmas.Bool.Decides.{nat_tests}
-use Rattle.hex_words.specs.Spelling.{hex_digit, hex, Bytes, Spells, SpellsNone, WordsTellBytesApart}
+use Rattle.hex_words.specs.Spelling.{hex_digit, hex, spelled_bytes, Bytes, Spells, SpellsNone, WordsTellBytesApart}
 
 length-hex : (bs : List ℕ) → length (hex bs) ≡ 2 * length bs
 length-hex [] = refl
@@ -62,12 +63,56 @@ a_byte chars bytes pairs i b cut h before is =
     let joined = append_assoc (take (2 * i) chars) (get_or chars (2 * i) 0 ∷ []) (get_or chars (2 * i + 1) 0 ∷ []) in
     cc
 
--- the hex of one byte more, whose digits are what `{:02x}` writes
-pub hex_more : (bs : List ℕ) (i : ℕ) → i < length bs → get_or bs i 0 < 256 → hex (take i bs) ++ padded_integral (format_spec 32 0 4 2 (2 ^ 64 - 1)) false [] (digits 16 false (get_or bs i 0)) ≡ hex (take (i + 1) bs)
-hex_more bs i h small =
-    ap (λ l. hex (take i bs) ++ l) (hex_byte false (get_or bs i 0) small)
-    ∙ sym (hex-append (take i bs) (get_or bs i 0 ∷ []))
-    ∙ ap hex (sym (take_more bs i 0 h))
+-- the digits of one byte more, set after those of i bytes
+pub two_digits : (digits bs : List ℕ) (i high low : ℕ) → 2 * i + 1 < length digits → i < length bs → take (2 * i) digits ≡ hex (take i bs) → high ≡ hex_digit (get_or bs i 0 / 16) → low ≡ hex_digit (get_or bs i 0 % 16) → take (2 * (i + 1)) (set (set digits (2 * i) high) (2 * i + 1) low) ≡ hex (take (i + 1) bs)
+two_digits digits bs i high low room h before is_high is_low =
+    let b = get_or bs i 0 in
+    let first = take_more_set digits (2 * i) high (omega arith) in
+    let long = length-set digits (2 * i) high in
+    let second = take_more_set (set digits (2 * i) high) (2 * i + 1) low (omega (arith, long)) in
+    let two : take (2 * (i + 1)) (set (set digits (2 * i) high) (2 * i + 1) low) ≡ take (2 * i + 1 + 1) (set (set digits (2 * i) high) (2 * i + 1) low) =
+    ap (λ n. take n (set (set digits (2 * i) high) (2 * i + 1) low)) (omega arith) in
+    two ∙ second ∙ ap (λ l. l ++ low ∷ []) first ∙ append_assoc (take (2 * i) digits) (high ∷ []) (low ∷ [])
+    ∙ (λ k. before k ++ is_high k ∷ is_low k ∷ [])
+    ∙ sym (hex-append (take i bs) (b ∷ [])) ∙ ap hex (sym (take_more bs i 0 h))
+
+digit_small : (d : ℕ) → d < 16 → hex_digit d < 128
+digit_small d h = grind (arith, nat_tests)
+
+hex_small : (bs : List ℕ) → Bytes bs → IsAscii (hex bs)
+hex_small [] h i = omega arith
+hex_small (b ∷ bs) h zero = digit_small (b / 16) (omega (arith, h 0))
+hex_small (b ∷ bs) h (suc zero) = digit_small (b % 16) (omega arith)
+hex_small (b ∷ bs) h (suc (suc i)) = hex_small bs (λ i. h (suc i)) i
+
+-- the digits of bytes are text
+pub hex_is_text : (bs : List ℕ) → Bytes bs → IsUtf8 (hex bs)
+hex_is_text bs h = IsUtf8-from_ascii (hex bs) (hex_small bs h)
+
+-- the block of n elements at i
+block_at : (n k i : ℕ) (xs : List ℕ) → i < k → get_or (first_chunks n k xs) i [] ≡ take n (drop (n * i) xs)
+block_at n zero i xs h = absurd (omega arith)
+block_at n (suc k) zero xs h = let none : 0 ≡ n * 0 = omega arith in ap (λ m. take n (drop m xs)) none
+block_at n (suc k) (suc i) xs h =
+    let next : n + n * i ≡ n * suc i = grind arith in
+    block_at n k i (drop n xs) (omega arith) ∙ ap (take n) (drop-drop (n * i) n xs ∙ ap (λ m. drop m xs) next)
+
+-- the hex of i blocks, and of one more
+pub block_more : (n i : ℕ) (bs : List ℕ) (blocks : List (List ℕ)) → blocks ≡ first_chunks n (length bs / n) bs → i < length bs / n → hex (take (n * i) bs) ++ hex (get_or blocks i []) ≡ hex (take (n * (i + 1)) bs)
+block_more n i bs blocks cut h =
+    let next : n * i + n ≡ n * (i + 1) = grind arith in
+    (λ k. hex (take (n * i) bs) ++ hex ((ap (λ l. get_or l i []) cut ∙ block_at n (length bs / n) i bs h) k))
+    ∙ sym (hex-append (take (n * i) bs) (take n (drop (n * i) bs)))
+    ∙ ap hex (sym (take-add (n * i) n bs) ∙ ap (λ m. take m bs) next)
+
+-- the hex of all blocks, and of what is left after them
+pub blocks_whole : (n i : ℕ) (bs rest : List ℕ) → i ≡ length bs / n → rest ≡ drop (length bs / n * n) bs → 0 < length bs → hex (take (n * i) bs) ++ hex rest ≡ spelled_bytes bs
+blocks_whole n i [] rest e left h = absurd (omega arith)
+blocks_whole n i (b ∷ bs) rest e left h =
+    let same : length (b ∷ bs) / n * n ≡ n * i = mul_comm (length (b ∷ bs) / n) n ∙ ap (λ m. n * m) (sym e) in
+    ap (λ l. hex (take (n * i) (b ∷ bs)) ++ hex l) (left ∙ ap (λ m. drop m (b ∷ bs)) same)
+    ∙ sym (hex-append (take (n * i) (b ∷ bs)) (drop (n * i) (b ∷ bs)))
+    ∙ ap hex (take-append-drop (n * i) (b ∷ bs))
 
 digits_apart : (d e : ℕ) → d < 16 → e < 16 → hex_digit d ≡ hex_digit e → d ≡ e
 digits_apart d e h k same = grind (arith, nat_tests)

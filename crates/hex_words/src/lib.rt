@@ -1,7 +1,8 @@
 // Bytes in lower-case hex, two digits a byte, and `-` for none.
 #![tactic(auto)]
 
-ghost use Rattle.std.specs.Prelude.{◌≡◌, ℕ, ◌<◌, [], ◌∷◌, length, IfOk, MatchOption, Some, ◌≢◌};
+ghost use Rattle.std.specs.Prelude.{◌≡◌, ℕ, ◌*◌, ◌<◌, ◌≤◌, [], ◌∷◌, length, take, IfOk, MatchOption, Some, ◌≢◌};
+ghost use Rattle.std.specs.Fmt.{WritesOnOk};
 ghost use Rattle.hex_words.specs.Spelling.{hex_digit, hex, spelled_bytes, Spells, SpellsNone};
 
 pub mod laws;
@@ -61,17 +62,56 @@ pub fn unhex(heap: Global, word: &[u8]) -> Result<Option<Vec<u8>>, AllocError>
 #[derive(Clone, Copy)]
 pub struct Hex<'a>(pub &'a [u8]);
 
+// How many bytes are written at a time: the formatter is called for a block, and not for each byte.
+const BLOCK: usize = 32;
+
+fn digit_of(value: u8) -> u8
+    requires { value < 16 }
+    ensures { result ≡ hex_digit value }
+{
+    if value < 10 {
+        b'0' + value
+    } else {
+        b'a' + (value - 10)
+    }
+}
+
+// The digits of at most a block of bytes.
+fn digits_of(bytes: &[u8]) -> [u8; 2 * BLOCK]
+    requires { length bytes.now ≤ 32 }
+    ensures { take (2 * length bytes.now) result ≡ hex bytes.now }
+{
+    let mut digits = [b'0'; 2 * BLOCK];
+    for (i, &byte) in bytes.iter().enumerate() {
+        digits[2 * i] = digit_of(byte / 16);
+        digits[2 * i + 1] = digit_of(byte % 16);
+    }
+    digits
+}
+
+// Writes two digits for each of at most `BLOCK` bytes.
+fn write_digits<W: fmt::Write>(bytes: &[u8], f: &mut fmt::Formatter<W>) -> fmt::Result
+    requires { length bytes.now ≤ 32 }
+    ensures { WritesOnOk W.write_str_gives f.old result (hex bytes.now) f.new }
+{
+    let digits = digits_of(bytes);
+    let Ok(text) = str::from_utf8(&digits[..2 * bytes.len()]) else {
+        unreachable!()
+    };
+    f.write_str(text)
+}
+
 impl fmt::Display for Hex<'_> {
     ghost output = { λ h. Some (spelled_bytes h.0.now) };
 
-    #[tactic(auto, using(std::proofs::lemmas::Grind::put_two, crate::proofs::Spelling::hex_more))]
     fn fmt<W: fmt::Write>(&self, f: &mut fmt::Formatter<W>) -> fmt::Result {
         if self.0.is_empty() {
             return f.write_str("-");
         }
-        for &byte in self.0 {
-            write!(f, "{byte:02x}")?;
+        let (blocks, rest) = self.0.as_chunks::<BLOCK>();
+        for block in blocks {
+            write_digits(block, f)?;
         }
-        Ok(())
+        write_digits(rest, f)
     }
 }

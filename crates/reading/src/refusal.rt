@@ -64,16 +64,24 @@ impl From<ReadFault> for Refusal {
     }
 }
 
-impl fmt::Display for Layer {
-    ghost output = { λ layer. Some (layer_text layer) };
-
-    fn fmt<W: fmt::Write>(&self, f: &mut fmt::Formatter<W>) -> fmt::Result {
-        f.write_str(match self {
+impl Layer {
+    pub fn name(self) -> &'static str
+        ensures { result.now ≡ layer_text self }
+    {
+        match self {
             Layer::Reading => "reading",
             Layer::Seal => "seal",
             Layer::Guard => "guard",
             Layer::Journal => "journal",
-        })
+        }
+    }
+}
+
+impl fmt::Display for Layer {
+    ghost output = { λ layer. Some (layer_text layer) };
+
+    fn fmt<W: fmt::Write>(&self, f: &mut fmt::Formatter<W>) -> fmt::Result {
+        f.write_str(self.name())
     }
 }
 

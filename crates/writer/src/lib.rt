@@ -1,7 +1,7 @@
 // Writes messages into a lent buffer, the terms given as bytes.
 #![tactic(auto)]
 
-ghost use Rattle.std.specs.Prelude.{◌≡◌};
+ghost use Rattle.std.specs.Prelude.{◌≡◌, ◌+◌, ◌<◌, ◌≤◌, ◌++◌, length, drop, MatchOption};
 ghost use Rattle.message.specs.Messages.{encode_message};
 ghost use Rattle.message.specs.Said.{said, Tells};
 ghost use Rattle.writer.specs.Writing.{joined, draft_of, write_answer, buffer_after, Lays};
@@ -15,24 +15,42 @@ use reading::number::Number;
 use reading::refusal::ReadFault;
 use std::convert::AsSlice;
 
-// Writes the parts one after another from the front of the buffer, and says how long they are. Each part is written
-// after those that follow it, so a buffer that has no room for all of them stays as it was.
+// What is left of so much room when the parts are laid, where they fit.
+fn room_after(room: usize, parts: &[&[u8]]) -> Option<usize>
+    ensures { MatchOption result (room < length (joined parts.now)) (λ left. left + length (joined parts.now) ≡ room) }
+{
+    let mut left = room;
+    for part in parts {
+        left = left.checked_sub(part.len())?;
+    }
+    Some(left)
+}
+
+// Lays the parts one after another at the front of the buffer, which has room for them.
+fn fill(out: &mut [u8], parts: &[&[u8]])
+    requires { length (joined parts.now) ≤ length out.old }
+    ensures { out.new ≡ joined parts.now ++ drop (length (joined parts.now)) out.old }
+{
+    if let Some((part, others)) = parts.split_first() {
+        let (here, after) = out.split_at_mut(part.len());
+        here.copy_from_slice(part);
+        fill(after, others);
+    }
+}
+
+// Lays the parts, and says how long they are. The room for all is tried first, so a buffer that has none for the last
+// stays as it was.
+#[inline(always)]
 fn lay(out: &mut [u8], parts: &[&[u8]]) -> Result<usize, ReadFault>
     ensures { Lays (joined parts.now) out.old result out.new }
 {
-    let Some((part, others)) = parts.split_first() else {
-        return Ok(0);
-    };
-    if out.len() < part.len() {
-        return Err(ReadFault::NoRoom);
-    }
-    let (here, after) = out.split_at_mut(part.len());
-    let rest = lay(after, others)?;
-    here.copy_from_slice(part);
-    Ok(part.len() + rest)
+    let left = room_after(out.len(), parts).ok_or(ReadFault::NoRoom)?;
+    fill(out, parts);
+    Ok(out.len() - left)
 }
 
 // The message with its terms read, each as an input: the first is input 1.
+#[inline(always)]
 fn read_terms<T: AsSlice<u8>>(given: &Message<T>) -> Result<Message<Term<'_>>, ReadFault>
     ensures { Tells said (draft_of T.items given.now) result }
 {
@@ -55,6 +73,7 @@ fn read_terms<T: AsSlice<u8>>(given: &Message<T>) -> Result<Message<Term<'_>>, R
     })
 }
 
+#[inline(always)]
 fn put(message: Message<Term>, out: &mut [u8]) -> Result<usize, ReadFault>
     ensures { Lays (encode_message (said message.entry)) out.old result out.new }
 {
@@ -85,7 +104,9 @@ fn put(message: Message<Term>, out: &mut [u8]) -> Result<usize, ReadFault>
     }
 }
 
-// Reads the terms, and writes the message: its length, or a refusal that leaves the buffer as it was.
+// Reads the terms, and writes the message: its length, or a refusal that leaves the buffer as it was. Inlined, with what it
+// calls: a caller that writes one kind of message then runs nothing of the others.
+#[inline(always)]
 pub fn write<T: AsSlice<u8>>(given: &Message<T>, out: &mut [u8]) -> Result<usize, ReadFault>
     ensures answer { result ≡ write_answer (draft_of T.items given.now) out.old }
     ensures buffer { out.new ≡ buffer_after (draft_of T.items given.now) result out.old }
