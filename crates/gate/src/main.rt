@@ -24,12 +24,15 @@ fn carry_out(heap: Global, line: &[u8]) -> Result<Option<String>, AllocError>
     }
 }
 
+// Each answer is written with its line end by one call, however long it is: `println!` would cut a long one.
 fn main(rt: HostRuntime) -> io::Result<()> {
+    let mut text = Vec::new(rt.alloc());
     for line in BufReader::new(rt.alloc(), rt.stdin())?.split(rt.alloc(), b'\n') {
-        if let Some(mut answer) = carry_out(rt.alloc(), line?.as_slice())? {
-            // One write for each answer, however long: `println!` would cut a long one.
-            answer.push('\n')?;
-            rt.stdout().write_all(answer.as_bytes())?;
+        if let Some(answer) = carry_out(rt.alloc(), line?.as_slice())? {
+            text.clear();
+            text.extend_from_slice(answer.as_bytes())?;
+            text.push(b'\n')?;
+            rt.stdout().write_all(text.as_slice())?;
         }
     }
     Ok(())
