@@ -104,8 +104,8 @@ fn put(message: Message<Term>, out: &mut [u8]) -> Result<usize, ReadFault>
     }
 }
 
-// Reads the terms, and writes the message: its length, or a refusal that leaves the buffer as it was. Inlined, with what it
-// calls: a caller that writes one kind of message then runs nothing of the others.
+// Reads the terms, and writes the message: its length, or a refusal that leaves the buffer as it was. It is inlined, and so
+// are the three above that it goes through: a caller that writes one kind of message then runs nothing of the others.
 #[inline(always)]
 pub fn write<T: AsSlice<u8>>(given: &Message<T>, out: &mut [u8]) -> Result<usize, ReadFault>
     ensures answer { result ≡ write_answer (draft_of T.items given.now) out.old }
